@@ -1,0 +1,17 @@
+pub mod Below
+pub mod BelowLaws
+pub mod BoolLaws
+pub mod Tests
+pub mod FirstOf
+pub mod Columns
+pub mod Class
+pub mod ClassLaws
+pub mod Number
+pub mod NumberLaws
+pub mod Same
+pub mod SameLaws
+pub mod Spans
+pub mod Splice
+pub mod SpliceLaws
+pub mod Rows
+pub mod RowsLaws

@@ -1,0 +1,37 @@
+// Bytes and columns: what every file, book and list of this library is made of.
+mod class;
+mod columns;
+mod kinds;
+mod number;
+mod put;
+mod rows;
+mod same;
+mod spans;
+
+pub use class::Class;
+pub use class::all_of;
+pub use class::filled_with;
+pub use class::is_of;
+pub use class::place_of;
+pub use columns::Columns;
+pub use columns::field;
+pub use kinds::Count;
+pub use kinds::Gross;
+pub use kinds::Net;
+pub use number::Digits;
+pub use number::big_endian;
+pub use number::read_digits;
+pub use put::put_bytes;
+pub use put::put_digits;
+pub use put::put_run;
+pub use rows::Layout;
+pub use rows::Lines;
+pub use rows::footer_of;
+pub use rows::framed_lines;
+pub use rows::header_of;
+pub use rows::line_count;
+pub use rows::line_of;
+pub use same::is_before;
+pub use same::is_same;
+pub use spans::agree_across;
+pub use spans::agree_on;

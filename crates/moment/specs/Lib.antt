@@ -1,0 +1,3 @@
+pub mod Calendar
+pub mod Moment
+pub mod MomentLaws
