@@ -1,0 +1,15 @@
+pub mod AndLaws
+pub mod Form
+pub mod FormLaws
+pub mod Taking
+pub mod TakingLaws
+pub mod Credits
+pub mod CreditsLaws
+pub mod Counting
+pub mod Balance
+pub mod Assignment
+pub mod Sequence
+pub mod SequenceLaws
+pub mod Demand3Laws
+pub mod Demand3
+pub mod Worked
