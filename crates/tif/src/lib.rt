@@ -1,0 +1,34 @@
+// The TIF between the received bytes and the first line verdict: its name, header, lines and footer, and its acceptance.
+mod acceptance;
+mod body;
+mod columns;
+mod footer;
+mod header;
+mod name;
+mod reader;
+mod received;
+mod side;
+
+pub use acceptance::Acceptance;
+pub use acceptance::Whole;
+pub use acceptance::acceptance_of;
+pub use body::Amount;
+pub use body::line_amount;
+pub use columns::TIF;
+pub use name::NAME_IDENTITY;
+pub use name::NAME_RECEIVER;
+pub use name::NAME_SENDER;
+pub use name::NAME_STEM;
+pub use name::is_actor;
+pub use name::is_file_stem;
+pub use name::is_name;
+pub use reader::Reader;
+pub use reader::moved_on;
+pub use reader::reader_at;
+pub use reader::shown;
+pub use reader::tif_line;
+pub use received::is_received;
+pub use received::names_whole;
+pub use side::Side;
+pub use side::is_sided;
+pub use side::side_of;
