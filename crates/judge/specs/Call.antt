@@ -1,0 +1,210 @@
+-- The call as a whole: what is lent, the answer, and what is lent afterwards. Assumes nothing.
+use mathlib.Core.Path.{_≡_}
+use mathlib.Core.Bool.{Bool, true, false, _||_, cond}
+use mathlib.Core.List.{List, [], _++_}
+use Prim.Native.Nat.{ℕ, _+_, _*_, _≤_, _<_}
+use lib.ListN.{length, drop}
+use lib.Dec.{eqb, ltb}
+use Rattle.lines.specs.Splice.{splice}
+use Rattle.tif.specs.Acceptance.{acceptanceOf}
+use Rattle.tif.specs.Body.{grossOf}
+use Rattle.tif.specs.Name.{nameSender}
+use Rattle.tif.specs.Side.{sideOf}
+use Rattle.tif.specs.declared.acceptance.Acceptance.{Acceptance}
+use Rattle.tic.specs.Text.{Tic, ticText}
+use Rattle.tic.specs.declared.values.TicHead.{TicHead}
+use Rattle.tic.specs.declared.values.TicSums.{TicSums}
+use Rattle.verdicts.specs.declared.record.Record.{Record}
+use Rattle.judging.specs.Judging.{Judging, judging, marksBefore, wordsOf}
+use Rattle.judging.specs.Sums.{countOf, totalOf}
+use Rattle.judge.specs.Answer.{answerCode}
+use Rattle.judge.specs.Fault.{checkCall}
+use Rattle.judge.specs.Listing.{ticOf}
+use Rattle.judge.specs.Records.{LineKnown, recordsTo}
+use Rattle.judge.specs.declared.answer.Answer.{Answer}
+use Rattle.judge.specs.declared.answer.Answer.the-variants.{Refused, Answered}
+use Rattle.judge.specs.declared.answer.CallCheck.{CallCheck}
+use Rattle.judge.specs.declared.answer.CallFault.the-variants.{Room}
+use Rattle.judge.specs.declared.answer.FileAnswer.{FileAnswer}
+use Rattle.judge.specs.declared.answer.FileAnswer.the-variants.{Accepted, PartlyAccepted, AlreadyReceived, CountsDiffer, TotalDiffers, OutOfForm}
+use Rattle.judge.specs.declared.answer.Summary.{Summary}
+
+-- everything lent; of the record table only its length decides
+pub record Call : Type 0 where
+  pub name : List ℕ
+  pub received : List ℕ
+  pub card : List ℕ
+  pub names : List ℕ
+  pub book : List ℕ
+  pub debits : List ℕ
+  pub marks : List ℕ
+  pub tif : List ℕ
+  pub room : ℕ
+  pub out : List ℕ
+
+abbrev pub callOf : List ℕ → List ℕ → List ℕ → List ℕ → List ℕ → List ℕ → List ℕ → List ℕ → ℕ → List ℕ → Call
+callOf name received card names book debits marks tif room out = record {
+  name = name;
+  received = received;
+  card = card;
+  names = names;
+  book = book;
+  debits = debits;
+  marks = marks;
+  tif = tif;
+  room = room;
+  out = out;
+}
+
+-- E1 to E6
+abbrev pub checkOf : Call → CallCheck
+checkOf c = checkCall (c .name) (c .received) (c .card) (c .names) (c .book) (c .debits) (c .marks)
+
+-- 02, 05, 03, 04, or the file is judged line by line
+abbrev pub fileOf : Call → Acceptance
+fileOf c = acceptanceOf (c .name) (c .names) (c .tif)
+
+-- how many lines are judged: none with 02 to 05
+abbrev pub linesToJudge : Acceptance → ℕ
+linesToJudge (Acceptance.Judged w) = w .lines
+linesToJudge Acceptance.AlreadyReceived = 0
+linesToJudge Acceptance.OutOfForm = 0
+linesToJudge Acceptance.CountsDiffer = 0
+linesToJudge Acceptance.TotalDiffers = 0
+
+-- the total that is told: zero with 02 to 05
+abbrev pub totalTold : Acceptance → ℕ
+totalTold (Acceptance.Judged w) = w .total .0
+totalTold Acceptance.AlreadyReceived = 0
+totalTold Acceptance.OutOfForm = 0
+totalTold Acceptance.CountsDiffer = 0
+totalTold Acceptance.TotalDiffers = 0
+
+-- the lines are judged by the side of the file, the sender in its name, the book and the open debits
+abbrev pub judgingOf : Call → Judging
+judgingOf c = judging (sideOf (c .tif)) (nameSender (c .name)) (c .book) (c .debits) (c .tif)
+
+abbrev pub linesOf : Call → ℕ
+linesOf c = linesToJudge (fileOf c)
+
+-- the words of the lines, and the marks after them
+unfoldable pub wordsJudged : Call → List ℕ
+wordsJudged c = wordsOf (judgingOf c) (c .marks) (linesOf c)
+
+unfoldable pub marksJudged : Call → List ℕ
+marksJudged c = marksBefore (judgingOf c) (c .marks) (linesOf c)
+
+-- 01 where a line is refused, 00 where none is
+unfoldable pub judgedAnswer : ℕ → FileAnswer
+judgedAnswer refused = cond (eqb refused 0) Accepted PartlyAccepted
+
+abbrev pub fileAnswer : Acceptance → ℕ → FileAnswer
+fileAnswer (Acceptance.Judged w) refused = judgedAnswer refused
+fileAnswer Acceptance.AlreadyReceived refused = AlreadyReceived
+fileAnswer Acceptance.OutOfForm refused = OutOfForm
+fileAnswer Acceptance.CountsDiffer refused = CountsDiffer
+fileAnswer Acceptance.TotalDiffers refused = TotalDiffers
+
+-- how long a TIC with so many listed lines is
+abbrev pub ticLength : ℕ → ℕ
+ticLength refused = 324 + refused * 812
+
+-- what is told of a file with these words
+abbrev pub summaryFor : Acceptance → List ℕ → List ℕ → Summary
+summaryFor file tif words = record {
+  answer = fileAnswer file (countOf true words);
+  side = sideOf tif;
+  lines = length words;
+  accepted = countOf false words;
+  refused = countOf true words;
+  total = grossOf (totalTold file);
+  «accepted_amount» = grossOf (totalOf false tif words);
+  «refused_amount» = grossOf (totalOf true tif words);
+  length = ticLength (countOf true words);
+}
+
+-- what is told of a file that is refused as a whole
+abbrev pub refusedFile : FileAnswer → List ℕ → Summary
+refusedFile answer tif = record {
+  answer = answer;
+  side = sideOf tif;
+  lines = 0;
+  accepted = 0;
+  refused = 0;
+  total = grossOf 0;
+  «accepted_amount» = grossOf 0;
+  «refused_amount» = grossOf 0;
+  length = ticLength 0;
+}
+
+unfoldable pub summaryOf : Call → Summary
+summaryOf c = summaryFor (fileOf c) (c .tif) (wordsJudged c)
+
+-- the TIC's header and footer by what is told
+abbrev pub headOf : Summary → TicHead
+headOf s = record { acceptance = answerCode (s .answer); side = s .side; accepted = record { 0 = s .accepted }; rejected = record { 0 = s .refused } }
+
+abbrev pub sumsOf : Summary → TicSums
+sumsOf s = record { accepted = s .«accepted_amount»; rejected = s .«refused_amount» }
+
+unfoldable pub ticOfCall : Call → Tic
+ticOfCall c = ticOf (c .name) (c .received) (c .card) (c .tif) (wordsJudged c) (headOf (summaryOf c)) (sumsOf (summaryOf c))
+
+-- E7: the output is shorter than the TIC, or there are fewer records than lines judged
+abbrev pub tooSmall : Summary → ℕ → ℕ → Bool
+tooSmall s room size = ltb size (s .length) || ltb room (s .lines)
+
+-- the answer of a call that is sound so far
+abbrev pub answerSound : Summary → ℕ → ℕ → Answer
+answerSound s room size = cond (tooSmall s room size) (Refused Room) (Answered s)
+
+abbrev pub answerFor : CallCheck → Answer → Answer
+answerFor (CallCheck.Faulty fault) sound = Refused fault
+answerFor CallCheck.Sound sound = sound
+
+unfoldable pub answerOf : Call → Answer
+answerOf c = answerFor (checkOf c) (answerSound (summaryOf c) (c .room) (length (c .out)))
+
+-- a call refused by number leaves what is lent as it was
+abbrev pub isAnswered : Answer → Bool
+isAnswered (Refused fault) = false
+isAnswered (Answered s) = true
+
+unfoldable pub marksOf : Call → List ℕ
+marksOf c = cond (isAnswered (answerOf c)) (marksJudged c) (c .marks)
+
+unfoldable pub outOf : Call → List ℕ
+outOf c = cond (isAnswered (answerOf c)) (splice (c .out) 0 (ticText (ticOfCall c))) (c .out)
+
+-- how many records are filled
+abbrev pub linesToRecord : Answer → ℕ
+linesToRecord (Refused fault) = 0
+linesToRecord (Answered s) = s .lines
+
+unfoldable pub recordsOf : Call → List Record → List Record
+recordsOf c records = recordsTo (c .tif) (wordsJudged c) (linesToRecord (answerOf c)) ++ drop (linesToRecord (answerOf c)) records
+
+-- the words that were tried: those of a call that is sound so far
+abbrev pub wordsFor : CallCheck → List ℕ → List ℕ
+wordsFor (CallCheck.Faulty fault) words = []
+wordsFor CallCheck.Sound words = words
+
+unfoldable pub wordsTried : Call → List ℕ
+wordsTried c = wordsFor (checkOf c) (wordsJudged c)
+
+-- what the covered core ensures: the words that were tried stand in front of those lent
+pub record WordsJudged (c : Call) (words : List ℕ) (r : Answer) (marks′ words′ out′ : List ℕ) : Type 0 where
+  pub answer : r ≡ answerOf c
+  pub marksThen : marks′ ≡ marksOf c
+  pub outThen : out′ ≡ outOf c
+  pub wordsThen : words′ ≡ splice words 0 (wordsTried c)
+  -- what the records rest on
+  pub roomFor : linesToRecord r ≤ c .room
+  pub known : (k : ℕ) → k < linesToRecord r → LineKnown (c .tif) words′ k
+
+-- what the public call ensures
+pub record Judged (c : Call) (records : List Record) (r : Answer) (marks′ : List ℕ) (records′ : List Record) (out′ : List ℕ) : Type 0 where
+  pub answer : r ≡ answerOf c
+  pub marksThen : marks′ ≡ marksOf c
+  pub outThen : out′ ≡ outOf c
+  pub recordsThen : records′ ≡ recordsOf c records

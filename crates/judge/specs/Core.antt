@@ -1,0 +1,65 @@
+-- What each step of the call rests on, and what it gives. Assumes nothing.
+use mathlib.Core.Path.{_≡_}
+use mathlib.Core.Bool.{cond}
+use mathlib.Core.List.{List, []}
+use Prim.Native.Nat.{ℕ, _*_, _≤_}
+use lib.ListN.{length, take}
+use Rattle.lines.specs.Rows.{mostLines}
+use Rattle.lines.specs.Splice.{splice}
+use Rattle.tif.specs.Name.{nameSender}
+use Rattle.tif.specs.Side.{sideOf}
+use Rattle.judging.specs.Judging.{judging, marksBefore, wordsOf}
+use Rattle.judging.specs.Steps.{Given}
+use Rattle.tif.specs.declared.acceptance.Acceptance.{Acceptance}
+use Rattle.tif.specs.declared.acceptance.Whole.{Whole}
+use Rattle.tic.specs.Text.{ticText}
+use Rattle.judge.specs.Call.{Call, checkOf, fileOf, headOf, sumsOf, tooSmall, answerSound}
+use Rattle.judge.specs.Card.{verdictsInUse}
+use Rattle.judge.specs.Listing.{ticOf, TicRoom}
+use Rattle.judge.specs.declared.answer.CallCheck.{CallCheck}
+use Rattle.judge.specs.declared.answer.Answer.{Answer}
+use Rattle.judge.specs.declared.answer.Summary.{Summary}
+
+-- lines to judge: a name of its width, what the judging asks for, and room for the words
+pub record LinesReady (name book debits marks tif : List ℕ) (n : ℕ) (words : List ℕ) : Type 0 where
+  pub named : length name ≡ 35
+  pub given : Given book debits marks tif n
+  pub few : n ≤ mostLines
+  pub room : n ≤ length words
+
+-- n lines judged: the marks after them in front of the copy, their words in front of those lent
+pub record Filled (name book debits marks tif : List ℕ) (n : ℕ) (words mine′ words′ : List ℕ) : Type 0 where
+  pub marked : take (length marks) mine′ ≡ marksBefore (judging (sideOf tif) (nameSender name) book debits tif) marks n
+  pub worded : words′ ≡ splice words 0 (wordsOf (judging (sideOf tif) (nameSender name) book debits tif) marks n)
+  pub fits : length marks ≤ length mine′
+
+-- ready to be committed: room for the TIC, and a mark for each that is lent
+pub record Committable (name received card tif words : List ℕ) (s : Summary) (mine marks out : List ℕ) : Type 0 where
+  pub text : TicRoom name received card tif words (headOf s) out
+  pub same : length mine ≡ length marks
+
+-- committed
+pub record Committed (name received card tif words : List ℕ) (s : Summary) (mine out marks′ out′ : List ℕ) : Type 0 where
+  pub marksThen : marks′ ≡ mine
+  pub outThen : out′ ≡ splice out 0 (ticText (ticOf name received card tif words (headOf s) (sumsOf s)))
+
+-- a call that is sound so far, and whose words have room
+pub record SoundReady (c : Call) (words : List ℕ) : Type 0 where
+  pub sound : checkOf c ≡ CallCheck.Sound
+  pub room : 9999 ≤ length words
+
+-- whose file is judged line by line
+pub record FileReady (c : Call) (w : Whole) (words : List ℕ) : Type 0 where
+  pub ready : SoundReady c words
+  pub file : fileOf c ≡ Acceptance.Judged w
+
+-- ---- a file that is refused as a whole
+pub record Widths (name received card : List ℕ) : Type 0 where
+  pub named : length name ≡ 35
+  pub dated : length received ≡ 14
+  pub carded : length card ≡ verdictsInUse * 2
+
+-- its TIC, where there is room for it
+pub record FileRefused (name received card tif : List ℕ) (s : Summary) (room : ℕ) (out : List ℕ) (r : Answer) (out′ : List ℕ) : Type 0 where
+  pub answer : r ≡ answerSound s room (length out)
+  pub outThen : out′ ≡ cond (tooSmall s room (length out)) out (splice out 0 (ticText (ticOf name received card tif [] (headOf s) (sumsOf s))))

@@ -1,0 +1,15 @@
+// The call: what is lent is judged, and the TIC, the records and the marks are written once nothing can be refused any more.
+mod answer;
+mod call;
+mod card;
+mod core;
+mod fault;
+mod listing;
+mod outcome;
+mod records;
+
+pub use answer::Answer;
+pub use answer::CallFault;
+pub use answer::FileAnswer;
+pub use answer::Summary;
+pub use call::judge;

@@ -1,0 +1,35 @@
+// The TIC as a text: rendering it, reading it, and writing what was read.
+mod body;
+mod columns;
+mod counts;
+mod footer;
+mod header;
+mod header_text;
+mod listed;
+mod number;
+mod reading;
+mod rewriting;
+mod text;
+mod texts;
+mod values;
+
+pub use columns::TIC;
+pub use header_text::put_header;
+pub use listed::Listed;
+pub use listed::listed_line;
+pub use listed::shown_code;
+pub use listed::shown_identity;
+pub use listed::shown_line;
+pub use listed::shown_moment;
+pub use listed::shown_receiver;
+pub use reading::fault_number;
+pub use reading::read_tic;
+pub use rewriting::Rewritten;
+pub use rewriting::rewrite_tic;
+pub use text::put_footer;
+pub use text::put_listed;
+pub use values::TicFault;
+pub use values::TicHead;
+pub use values::TicReading;
+pub use values::TicSums;
+pub use values::TicValues;
