@@ -11,6 +11,7 @@ use Rattle.tif.specs.Body.{grossOf}
 use Rattle.tif.specs.Name.{nameSender}
 use Rattle.tif.specs.Side.{sideOf}
 use Rattle.tif.specs.declared.acceptance.Acceptance.{Acceptance}
+use Rattle.tic.specs.Rewriting.{ticLength}
 use Rattle.tic.specs.Text.{Tic, ticText}
 use Rattle.tic.specs.declared.values.TicHead.{TicHead}
 use Rattle.tic.specs.declared.values.TicSums.{TicSums}
@@ -104,10 +105,6 @@ fileAnswer Acceptance.AlreadyReceived refused = AlreadyReceived
 fileAnswer Acceptance.OutOfForm refused = OutOfForm
 fileAnswer Acceptance.CountsDiffer refused = CountsDiffer
 fileAnswer Acceptance.TotalDiffers refused = TotalDiffers
-
--- how long a TIC with so many listed lines is
-abbrev pub ticLength : ℕ → ℕ
-ticLength refused = 324 + refused * 812
 
 -- what is told of a file with these words
 abbrev pub summaryFor : Acceptance → List ℕ → List ℕ → Summary

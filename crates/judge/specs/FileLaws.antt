@@ -19,7 +19,8 @@ use Rattle.debits.specs.CreditsLaws.{after-length}
 use Rattle.tif.specs.Body.{lineAt}
 use Rattle.judging.specs.Judging.{Judging, reachesAt, marksBefore, wordsOf}
 use Rattle.judging.specs.Sums.{Worded, countOf}
-use Rattle.judge.specs.Call.{Call, judgingOf, linesOf, linesToJudge, wordsJudged, marksJudged, summaryFor, summaryOf, headOf, sumsOf, ticLength, ticOfCall, tooSmall}
+use Rattle.tic.specs.Rewriting.{ticLength}
+use Rattle.judge.specs.Call.{Call, judgingOf, linesOf, linesToJudge, wordsJudged, marksJudged, summaryFor, summaryOf, headOf, sumsOf, ticOfCall, tooSmall}
 use Rattle.judge.specs.Core.{Filled, Committable, Committed, FileReady}
 use Rattle.judge.specs.CoreLaws.{words-length}
 use Rattle.judge.specs.Listing.{ticOf, refusedBefore}
@@ -87,7 +88,7 @@ module _ (c : Call) (w : Whole) (words : List ℕ) (ready : FileReady c w words)
       unfolding refusedBefore countOf
       refused-is = ap (λ (x : Summary). x .refused) is
 
-      length-is : s .length ≡ 324 + s .refused * 812
+      length-is : s .length ≡ 196 + s .refused * 812 + 128
       length-is = ap (λ (x : Summary). x .length) is ∙ ap (λ (x : Summary). ticLength (x .refused)) (sym is)
 
       pub committable : tooSmall s (c .room) (length (c .out)) ≡ false

@@ -13,3 +13,4 @@ pub use answer::CallFault;
 pub use answer::FileAnswer;
 pub use answer::Summary;
 pub use call::judge;
+pub use core::judge_words;

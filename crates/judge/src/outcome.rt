@@ -49,7 +49,7 @@ pub fn summarize(tif: &[u8], words: &[u64], whole: Whole) -> Summary
         total,
         accepted_amount,
         refused_amount,
-        length: 324 + number * 812,
+        length: 196 + number * 812 + 128,
     }
 }
 

@@ -27,12 +27,16 @@ use Rattle.debits.specs.Taking.{agrees, unmarked, freeFor, placeTaken, taken}
 use Rattle.debits.specs.Counting.{oneIf, countBelow}
 use Rattle.debits.specs.Credits.{marksAfter, takenAt, creditAccepted, creditRefused}
 use Rattle.debits.specs.Worked.{debit, credit, outcome}
+use Rattle.tic.specs.Pieces.{joined}
+use Rattle.tic.specs.Text.{zeros, blanks, headerText}
+use Rattle.tic.specs.Worked.{workedReceiver, workedStem, workedMoment, workedHead, workedHeader}
 
--- an answer: yes or no, what covers a passage, or how many of some credits are accepted and how many are L8
+-- an answer: yes or no, what covers a passage, how many of some credits are accepted and how many are L8, or a text
 pub data Answer : Type 0 where
   Says : Bool → Answer
   Covers : Cover → Answer
   AcceptedAndL8 : List ℕ → Answer
+  Reads : List ℕ → Answer
 
 infix 20 _gives_
 -- one worked line: what the definition says, and what 01 says
@@ -87,6 +91,13 @@ threeCredits first second = AcceptedAndL8 (outcome (first ∷ second ∷ []))
 abbrev acceptedAndL8 : ℕ → ℕ → Answer
 acceptedAndL8 accepted refused = AcceptedAndL8 (accepted ∷ refused ∷ [])
 
+-- the header of the worked TIC, and its pieces as 01 has them, joined
+abbrev ticHeader : Answer
+ticHeader = Reads (headerText workedReceiver workedStem workedMoment workedHead)
+
+abbrev piecesJoined : Answer
+piecesJoined = Reads workedHeader
+
 -- the table; a sequence is written in four digits, so 0 is 0000
 abbrev pub workedLines : List Line
 workedLines =
@@ -106,8 +117,9 @@ workedLines =
     ∷ (threeCredits 0 0 gives acceptedAndL8 2 1)
     ∷ (threeCredits 1 0 gives acceptedAndL8 1 2)
     ∷ (threeCredits 0 1 gives acceptedAndL8 1 2)
+    ∷ (ticHeader gives piecesJoined)
     ∷ []
 
 pub worked-lines : defined workedLines ≡ papers workedLines
-unfolding allBelow someBelow firstBelow sumBelow isDigit isCapital isOf byteIs allBytes allOf firstOf valueBelow allDigits numberOf bigEndian digitsOf lineOf differAt firstDifference same before spanAgrees agreeAcross agreeOn isLeap daysIn dateFault timeFault checkDate checkMoment isDate isMoment isSmall isMarkedLetter isPlateByte every isActor isSequence isFileStem isName agreements panOf bodyHead periodsAt periodOf bodyPlace inTime leasedTo periodCovers coversAt coveringPeriod hasCover panIs agreementOf coveringAgreement coverIn coverOf agrees unmarked freeFor placeTaken taken oneIf countBelow marksAfter takenAt creditAccepted creditRefused debit credit outcome
+unfolding allBelow someBelow firstBelow sumBelow isDigit isCapital isOf byteIs allBytes allOf firstOf valueBelow allDigits numberOf bigEndian digitsOf lineOf differAt firstDifference same before spanAgrees agreeAcross agreeOn isLeap daysIn dateFault timeFault checkDate checkMoment isDate isMoment isSmall isMarkedLetter isPlateByte every isActor isSequence isFileStem isName agreements panOf bodyHead periodsAt periodOf bodyPlace inTime leasedTo periodCovers coversAt coveringPeriod hasCover panIs agreementOf coveringAgreement coverIn coverOf agrees unmarked freeFor placeTaken taken oneIf countBelow marksAfter takenAt creditAccepted creditRefused debit credit outcome joined zeros blanks headerText
 worked-lines = refl

@@ -1,8 +1,8 @@
 -- From a TIC that reads to its values: they are sound, and its rows are their texts. Assumes nothing.
-use mathlib.Core.Path.{_≡_, refl, sym, ap, _∙_}
+use mathlib.Core.Path.{_≡_, sym, ap, _∙_}
 use mathlib.Core.Bool.{Bool, true, _&&_}
 use mathlib.Core.List.{List, _++_}
-use Prim.Native.Nat.{ℕ, zero, suc, _≤_, _<_}
+use Prim.Native.Nat.{ℕ, _≤_, _<_}
 use native.Mathlib.Omega.{arith}
 use lib.ListN.{length, take, drop}
 use lib.Seq.{getD-take}
@@ -19,10 +19,10 @@ use Rattle.lines.specs.RowsLaws.{footer-length}
 use Rattle.tif.specs.Acceptance.{framedCount}
 use Rattle.tif.specs.Every.{Tested, tested, holds}
 use Rattle.tif.specs.PartLaws.{part-part, take-short}
-use Rattle.tic.specs.ByteLaws.{bytes-at, bytes-each}
+use Rattle.tic.specs.ByteLaws.{bytes-part}
 use Rattle.tic.specs.Columns.{ticLayout, tifReceiver, receivedStem, receptionMoment, acceptedSumField, shownPart, codePart}
 use Rattle.tic.specs.FeedLaws.{feed-free}
-use Rattle.tic.specs.FileLaws.{join-same, file-joined}
+use Rattle.tic.specs.FileLaws.{join-same, sum-same, file-joined}
 use Rattle.tic.specs.Readable.{Readable, read-shows}
 use Rattle.tic.specs.Reading.{rowAt, ticHeader, ticFooter, ticLines, headOf, sumsOf, headAgrees, sumsFit, listedFormed, listedFormedAt, linesFormed, footerFormed, listedAmount, listedSum, readTic}
 use Rattle.tic.specs.ReadingLaws.{Listing, lined-at, footer-shows}
@@ -37,21 +37,6 @@ use Rattle.tic.specs.declared.values.TicHead.{TicHead}
 use Rattle.tic.specs.declared.values.TicSums.{TicSums}
 use Rattle.tic.specs.declared.values.TicReading.the-variants.{Values}
 use Rattle.tic.specs.declared.values.TicValues.{TicValues}
-
--- sums of numbers that are equal one by one
-pub sum-same : (f g : ℕ → ℕ) (n : ℕ) → ((i : ℕ) → i < n → f i ≡ g i) → sumBelow n f ≡ sumBelow n g
-unfolding sumBelow
-sum-same f g zero e = refl
-sum-same f g (suc n) e = rw (sum-same f g n (λ i h. e i (omega arith)), e n (omega arith))
-
--- a front of a text of one kind of byte
-bytes-front : (p : ℕ → Bool) (m n : ℕ) (s : List ℕ) → m ≤ n → n ≤ length s → allBytes p (take n s) ≡ true → allBytes p (take m s) ≡ true
-bytes-front p m n s h l e =
-    bytes-each p (take m s)
-    (λ i k.
-    let im : i < m = omega (arith, take-short m s) in
-    let w : i < length (take n s) = omega (arith, part-length 0 n s (omega arith)) in
-    ap p (getD-take m s i 0 im ∙ sym (getD-take n s i 0 (omega arith))) ∙ bytes-at p (take n s) e i w)
 
 module _ (tic : List ℕ) (v : TicValues) (e : readTic tic ≡ Values v) where
   r : Readable tic (v .listed)
@@ -127,7 +112,7 @@ module _ (tic : List ℕ) (v : TicValues) (e : readTic tic ≡ Values v) where
       let s = row-listing k h in
       sym (tested (holds (eq-eqb (length (shownPart row)) 809 (part-length 0 809 row (omega arith)))
       (holds (eq-eqb (col 1 (shownPart row)) 49 (getD-take 809 row 0 0 (omega arith) ∙ s .first))
-      (holds (bytes-front notFeed 809 811 row (omega arith) (omega arith) (feed-free row 811 (omega arith) (row-feed k h)))
+      (holds (ap (allBytes notFeed) (sym (part-part 809 0 811 0 row (omega arith))) ∙ bytes-part notFeed (take 811 row) 0 809 (feed-free row 811 (omega arith) (row-feed k h)))
       (holds (ap allDigits (part-part 11 136 809 0 row (omega arith)) ∙ s .amount) Tested.done)))))
 
   code-sound : (k : ℕ) → k < v .listed → codeSound (codeRead tic k) ≡ true

@@ -4,8 +4,8 @@ use mathlib.Core.Bool.{Bool, true, false}
 use mathlib.Core.List.{List, [], _++_}
 use Prim.Native.Nat.{ℕ, zero, suc, _+_, _-_, _≤_, _<_}
 use native.Mathlib.Omega.{arith}
-use lib.ListN.{length, getD, replicate, length-append, length-replicate, getD-replicate, List·getD-append}
-use lib.Seq.{getD-append-add, ext-getD}
+use lib.ListN.{length, getD, take, drop, length-take, length-drop, replicate, length-append, length-replicate, getD-replicate, List·getD-append}
+use lib.Seq.{getD-append-add, getD-take, getD-drop, ext-getD}
 use lib.Dec.{eqb, ltb}
 use borrow.Author.Tests.{eqb-true, eq-eqb, ltb-true, ltb-false}
 use Rattle.lines.specs.Below.{someBelow}
@@ -42,6 +42,15 @@ module _ (p : ℕ → Bool) where
 
   pub bytes-run : (n b : ℕ) → p b ≡ true → allBytes p (replicate n b) ≡ true
   bytes-run n b e = bytes-each (replicate n b) (λ i h. ap p (getD-replicate n i b 0 (omega (arith, length-replicate n b))) ∙ e)
+
+-- so is a part of it
+pub bytes-part : (p : ℕ → Bool) (s : List ℕ) (i n : ℕ) → allBytes p s ≡ true → allBytes p (take n (drop i s)) ≡ true
+bytes-part p s i n e =
+    bytes-each p (take n (drop i s))
+    (λ j h.
+    let inside : j < n = omega (arith, length-take n (drop i s)) in
+    let within : i + j < length s = omega (arith, length-take n (drop i s), length-drop i s) in
+    ap p (getD-take n (drop i s) j 0 inside ∙ getD-drop i s j 0) ∙ bytes-at p s e (i + j) within)
 
 pub bytes-weaken : (p q : ℕ → Bool) → ((b : ℕ) → p b ≡ true → q b ≡ true) → (s : List ℕ) → allBytes p s ≡ true → allBytes q s ≡ true
 bytes-weaken p q w s e = bytes-each q s (λ i h. w (getD s i 0) (bytes-at p s e i h))

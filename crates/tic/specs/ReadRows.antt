@@ -2,10 +2,10 @@
 use mathlib.Core.Path.{_≡_, refl, sym, ap, _∙_}
 use mathlib.Core.Bool.{true}
 use mathlib.Core.List.{List, [], _∷_, _++_}
-use Prim.Native.Nat.{ℕ, _+_, _^_, _<_}
+use Prim.Native.Nat.{ℕ, _^_, _<_}
 use native.Mathlib.Omega.{arith}
-use lib.ListN.{length, getD, take, drop, length-take, length-drop}
-use lib.Seq.{getD-take, getD-drop, drop-drop, take-add, take-all}
+use lib.ListN.{length, getD, take, drop}
+use lib.Seq.{getD-take, drop-drop, take-add, take-all}
 use borrow.Author.Tests.{eqb-true, eq-eqb}
 use Rattle.lines.specs.Below.{allBelow, someBelow, firstBelow}
 use Rattle.lines.specs.Class.{byteIs, allBytes, allOf}
@@ -26,7 +26,7 @@ use Rattle.tif.specs.PartLaws.{part-part}
 use Rattle.tif.specs.Side.{sideText}
 use Rattle.tif.specs.declared.side.Side.{Side}
 use Rattle.tif.specs.declared.side.Side.the-variants.{Credit, Debit, Neither}
-use Rattle.tic.specs.ByteLaws.{bytes-at, bytes-each, only-run, same-self}
+use Rattle.tic.specs.ByteLaws.{bytes-part, only-run, same-self}
 use Rattle.tic.specs.Columns.{acceptedField, rejectedField, sideField, acceptedAgain, rejectedAgain, shownPart, codePart, rejectedSumField, tifReceiver, receivedStem, receptionMoment}
 use Rattle.tic.specs.DigitLaws.{digits-all, number-digits}
 use Rattle.tic.specs.FreeLaws.{digits-free, cards-free, run-free, side-free, actor-shows, moment-shows, stem-free, FeedFree, with-piece, joined-feed}
@@ -237,15 +237,6 @@ pub code-shows : (code : List ℕ) → codeSound code ≡ true → (length code 
 unfolding codeSound
 code-shows code e = (eqb-true (length code) 2 (every-first _ _ e), every-first _ _ (every-rest _ _ e))
 
--- a part of a text without a line feed
-part-free : (s : List ℕ) (i n : ℕ) → allBytes notFeed s ≡ true → allBytes notFeed (take n (drop i s)) ≡ true
-part-free s i n e =
-    bytes-each notFeed (take n (drop i s))
-    (λ j h.
-    let inside : j < n = omega (arith, length-take n (drop i s)) in
-    let within : i + j < length s = omega (arith, length-take n (drop i s), length-drop i s) in
-    ap notFeed (getD-take n (drop i s) j 0 inside ∙ getD-drop i s j 0) ∙ bytes-at notFeed s e (i + j) within)
-
 module _ (line code : List ℕ) (l : LineShown line) (c : length code ≡ 2) (cards : allOf DigitOrCapital code ≡ true) where
   row-cut : cutFrom 0 listedWidths (listedText line code) ≡ listedPieces line code
   unfolding listedText
@@ -287,7 +278,7 @@ module _ (line code : List ℕ) (l : LineShown line) (c : length code ≡ 2) (ca
   unfolding listedText
   row-feed =
       joined-feed ((49 ∷ []) ∷ cols 2 809 line ∷ code ∷ [])
-      (with-piece (literal-free .1) (with-piece (part-free line 1 808 (l .free)) (with-piece (cards-free code cards) FeedFree.nil)))
+      (with-piece (literal-free .1) (with-piece (bytes-part notFeed line 1 808 (l .free)) (with-piece (cards-free code cards) FeedFree.nil)))
 
 -- ---- the footer
 module _ (s : TicSums) (a : s .accepted .0 < 10 ^ 15) (r : s .rejected .0 < 10 ^ 15) where

@@ -19,9 +19,8 @@ use Rattle.tif.specs.Every.{every-first, every-rest}
 use Rattle.tif.specs.NameLaws.{stem-shows}
 use Rattle.tif.specs.PartLaws.{take-short}
 use Rattle.tif.specs.Side.{isSided}
-use Rattle.tic.specs.AcceptedLaws.{sum-same}
 use Rattle.tic.specs.Columns.{ticLayout}
-use Rattle.tic.specs.FileLaws.{joined-header, joined-line, joined-footer, joined-framed}
+use Rattle.tic.specs.FileLaws.{sum-same, joined-header, joined-line, joined-footer, joined-framed}
 use Rattle.tic.specs.FreeLaws.{actor-shows, moment-shows}
 use Rattle.tic.specs.ReadRows.{HeaderValues, LineShown, line-shows, code-shows, text-sound, head-back, text-counts, header-feed, amount-back, row-formed, row-feed, foot-formed, sums-back, foot-feed}
 use Rattle.tic.specs.Reading.{acceptanceFits, headAgrees, headerSound, headOf, countsAgree, rowAt, listedFormed, listedFormedAt, linesFormed, footerFormed, sumsOf, sumsFit, listedAmount, listedSum, ticHeader, ticFooter, valuesOf, readTic}

@@ -10,21 +10,21 @@ use Rattle.tic.specs.Text.{zeros, blanks, headerText}
 use Rattle.tic.specs.declared.values.TicHead.{TicHead}
 
 -- of TIF100123202606150001_20000B_130001, received 20260616020000: receiver, stem and moment
-abbrev workedReceiver : List ℕ
+abbrev pub workedReceiver : List ℕ
 workedReceiver = 50 ∷ 48 ∷ 48 ∷ 48 ∷ 48 ∷ 66 ∷ []
 
-abbrev workedStem : List ℕ
+abbrev pub workedStem : List ℕ
 workedStem = 49 ∷ 48 ∷ 48 ∷ 49 ∷ 50 ∷ 51 ∷ 50 ∷ 48 ∷ 50 ∷ 54 ∷ 48 ∷ 54 ∷ 49 ∷ 53 ∷ 48 ∷ 48 ∷ 48 ∷ 49 ∷ []
 
-abbrev workedMoment : List ℕ
+abbrev pub workedMoment : List ℕ
 workedMoment = 50 ∷ 48 ∷ 50 ∷ 54 ∷ 48 ∷ 54 ∷ 49 ∷ 54 ∷ 48 ∷ 50 ∷ 48 ∷ 48 ∷ 48 ∷ 48 ∷ []
 
 -- acceptance 01, DEB, two lines accepted and one rejected
-abbrev workedHead : TicHead
+abbrev pub workedHead : TicHead
 workedHead = record { acceptance = 1; side = Debit; accepted = record { 0 = 2 }; rejected = record { 0 = 1 } }
 
 -- the pieces as 01 has them, joined
-abbrev workedHeader : List ℕ
+abbrev pub workedHeader : List ℕ
 workedHeader =
     (48 ∷ [])
     ++ (50 ∷ 48 ∷ 48 ∷ 48 ∷ 48 ∷ 66 ∷ [])

@@ -77,6 +77,7 @@ pub fn shown_code(tic: &[u8], listed: Listed) -> &[u8]
 }
 
 // A part of the header of a TIC that was read, and the empty part of one that was not.
+// The values are named in the arm, so that the proof can tell the case; nothing of them is used.
 fn shown_part(tic: &[u8], reading: TicReading, from: usize, width: usize) -> &[u8]
     ensures { λ r. ⌜ now r ≡ shownPart (now (tic .entry)) reading from width ⌝ }
 {

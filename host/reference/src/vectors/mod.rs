@@ -8,6 +8,7 @@ pub mod book;
 pub mod debits;
 pub mod ground;
 mod ground_fields;
+pub mod judge;
 pub mod judging;
 pub mod tic;
 pub mod tif;
@@ -51,6 +52,7 @@ pub fn all_programs() -> Vec<VectorFiles> {
         files("debits_vectors", &debits::cases()),
         files("tic_vectors", &tic::cases()),
         files("judging_vectors", &judging::cases()),
+        files("judge_vectors", &judge::cases()),
     ]
 }
 

@@ -31,10 +31,13 @@ mul-t17 c = omega (arith, refused-few (c .before .before .before .before .before
 add-t18 : tie.Need-add-t18
 add-t18 c = omega (arith, refused-few (c .before .before .before .before .before .before .before .before .before))
 
+add-t19 : tie.Need-add-t19
+add-t19 c = omega (arith, refused-few (c .before .before .before .before .before .before .before .before .before))
+
 returns : tie.Need-returns
 returns c = rw (c .before .judged-answer .ensures, c .side-of .ensures, c .before .before .before .before .before .before .before .before .before .sums-of .ensures)
 
 pub summarize-spec : {M : Type 1} → statement M
 summarize-spec =
     tie.close
-    (tie.spec sums-of-requires judged-answer-requires side-of-requires mul-t17 add-t18 returns)
+    (tie.spec sums-of-requires judged-answer-requires side-of-requires mul-t17 add-t18 add-t19 returns)
