@@ -19,17 +19,14 @@ Inv-loop tic n k₀ k = (allBelow k (listedFormedAt tic) ≡ true) × (k ≤ n)
 abbrev μ-loop : tie.MeasureT-loop
 μ-loop tic n k₀ k = n - k
 
--- src/body.rt:41:5
 loop-holds : tie.Need-loop-holds Inv-loop μ-loop
 loop-holds c = (all-zero _, search needs)
 
--- src/body.rt:42:27
 line-of-requires : tie.Need-line-of-requires Inv-loop μ-loop
 line-of-requires c κs =
     let s = c .before .before .before in
     omega (arith, s .pre, line-ends ticLayout (s .args .n) (c .before .loop .k) (omega arith))
 
--- src/body.rt:42:13
 listed-formed-requires : tie.Need-listed-formed-requires Inv-loop μ-loop
 listed-formed-requires c κs =
     let s = c .before .before .before .before in
@@ -39,28 +36,23 @@ told : (c : tie.After-listed-formed Inv-loop μ-loop) → c .listed-formed .resu
 unfolding listedFormedAt
 told c = c .listed-formed .ensures ∙ ap listedFormed (c .before .line-of .ensures)
 
--- src/body.rt:43:13
 returns : tie.Need-returns Inv-loop μ-loop
 unfolding linesFormed
 returns c =
     let l = c .before .before .before .before in
     sym (all-fails (listedFormedAt (l .before .before .args .tic .now)) (l .before .before .args .n) (l .loop .k) (omega arith) (sym (told (c .before)) ∙ not-true _ (c .if1 .taken)))
 
--- src/body.rt:45:9
 add-k : tie.Need-add-k Inv-loop μ-loop
 add-k c = search needs
 
--- src/body.rt:41:5
 loop-less : tie.Need-loop-less Inv-loop μ-loop
 loop-less c = search needs
 
--- src/body.rt:41:5
 loop-again : tie.Need-loop-again Inv-loop μ-loop
 loop-again c =
     let l = c .before .before .before .before in
     (all-more _ (l .loop .k) (l .loop .inv .0) (sym (told (c .before)) ∙ not-false _ (c .if1 .left)), omega arith)
 
--- src/body.rt:36:1
 returns-2 : tie.Need-returns-2 Inv-loop μ-loop
 unfolding linesFormed
 returns-2 c =

@@ -15,7 +15,6 @@ use Rattle.passage.specs.Passage.{grossAmount}
 use Rattle.tic.proofs.body.listed_formed.Statement.{statement}
 use Rattle.tic.proofs.body.listed_formed.Tie as tie
 
--- src/body.rt:26:8
 shared-slice-read-if1 : tie.Need-shared-slice-read-if1
 shared-slice-read-if1 c = search needs
 
@@ -39,33 +38,26 @@ after2 c p = after1 (c .before .before .before) (holds (sym (told2 (c .before)) 
 told3 : (c : tie.After-all-of2) → c .all-of2 .result ≡ allOf DigitOrCapital (codePart (t2 (c .before .before)))
 told3 c = c .all-of2 .ensures ∙ ap (allOf DigitOrCapital) (c .before .field2 .ensures)
 
--- src/body.rt:27:9
 returns : tie.Need-returns
 unfolding listedFormed
 returns c = tested (fails (ne-eqb _ _ (c .if1 .taken)))
 
--- src/body.rt:29:30
 field-requires : tie.Need-field-requires
 field-requires c κs = search needs
 
--- src/body.rt:29:9
 all-of-requires : tie.Need-all-of-requires
 all-of-requires c κs = search needs
 
--- src/body.rt:30:9
 returns-2 : tie.Need-returns-2
 unfolding listedFormed
 returns-2 c = tested (after1 (c .before .before .before) (fails (sym (told2 (c .before)) ∙ not-true _ (c .if2 .taken))))
 
--- src/body.rt:32:35
 field-requires-2 : tie.Need-field-requires-2
 field-requires-2 c κs = search needs
 
--- src/body.rt:32:5
 all-of-requires-2 : tie.Need-all-of-requires-2
 all-of-requires-2 c κs = search needs
 
--- src/body.rt:22:1
 returns-3 : tie.Need-returns-3
 unfolding listedFormed
 returns-3 c = tested (after2 (c .before .before) (finally (told3 c)))

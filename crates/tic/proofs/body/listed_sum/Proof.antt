@@ -22,17 +22,14 @@ Inv-loop tic n sum₀ k₀ sum k = (sum .0 ≡ sumBelow k (listedAmount tic)) ×
 abbrev μ-loop : tie.MeasureT-loop
 μ-loop tic n sum₀ k₀ sum k = n - k
 
--- src/body.rt:65:5
 loop-holds : tie.Need-loop-holds Inv-loop μ-loop
 loop-holds c = (sym (sum-zero _), search needs)
 
--- src/body.rt:66:35
 line-of-requires : tie.Need-line-of-requires Inv-loop μ-loop
 line-of-requires c κs =
     let s = c .before .before .before in
     omega (arith, s .pre .within, line-ends ticLayout (s .args .n) (c .before .loop .k) (omega arith))
 
--- src/body.rt:66:24
 row-amount-requires : tie.Need-row-amount-requires Inv-loop μ-loop
 row-amount-requires c κs =
     let s = c .before .before .before .before in
@@ -45,28 +42,23 @@ told : (c : tie.After-row-amount Inv-loop μ-loop) → c .row-amount .result .0 
 unfolding listedAmount
 told c = c .row-amount .ensures ∙ ap (λ (r : List ℕ). numberOf (grossAmount r)) (c .before .line-of .ensures)
 
--- src/body.rt:66:9
 plus-requires : tie.Need-plus-requires Inv-loop μ-loop
 plus-requires c κs =
     let s = c .before .before .before .before .before in
     let k = c .before .before .before .loop .k in
     omega (arith, told c, sum-small (s .args .tic .now) (s .args .n) (s .pre) (k + 1) (omega arith), sum-suc (listedAmount (s .args .tic .now)) k, s .pre .few)
 
--- src/body.rt:67:9
 add-k : tie.Need-add-k Inv-loop μ-loop
 add-k c = search needs
 
--- src/body.rt:65:5
 loop-less : tie.Need-loop-less Inv-loop μ-loop
 loop-less c = search needs
 
--- src/body.rt:65:5
 loop-again : tie.Need-loop-again Inv-loop μ-loop
 loop-again c =
     let l = c .before .before .before .before in
     (c .plus .ensures ∙ omega (arith, told (c .before), sum-suc (listedAmount (l .before .before .args .tic .now)) (l .loop .k), l .loop .inv .0), omega arith)
 
--- src/body.rt:59:1
 returns : tie.Need-returns Inv-loop μ-loop
 unfolding listedSum
 returns c =

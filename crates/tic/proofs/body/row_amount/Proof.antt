@@ -6,15 +6,12 @@ use Rattle.tic.specs.ReadingLaws.{digits-part}
 use Rattle.tic.proofs.body.row_amount.Statement.{statement}
 use Rattle.tic.proofs.body.row_amount.Tie as tie
 
--- src/body.rt:55:21
 field-requires : tie.Need-field-requires
 field-requires c κs = search needs
 
--- src/body.rt:55:11
 number-of-requires : tie.Need-number-of-requires
 number-of-requires c κs = digits-part _ (c .before .before .args .row .now) 136 11 (c .field .ensures) (omega arith) (c .before .before .pre .1)
 
--- src/body.rt:51:1
 returns : tie.Need-returns
 returns c = c .number-of .ensures ∙ ap numberOf (c .before .field .ensures)
 

@@ -7,35 +7,28 @@ use mathlib.Core.Bool.{not}
 use Rattle.tic.proofs.counts.acceptance_fits.Statement.{statement}
 use Rattle.tic.proofs.counts.acceptance_fits.Tie as tie
 
--- src/counts.rt:36:9
 returns : tie.Need-returns
 unfolding acceptanceFits
 returns c = picked (here (omega tests))
 
--- src/counts.rt:39:9
 all-zero-requires : tie.Need-all-zero-requires
 all-zero-requires c κs = search needs
 
--- src/counts.rt:39:9
 returns-2 : tie.Need-returns-2
 unfolding acceptanceFits
 returns-2 c = c .all-zero .ensures ∙ picked (past (omega tests) (here (omega tests)))
 
--- src/counts.rt:41:9
 is-sided-requires : tie.Need-is-sided-requires
 is-sided-requires c κs = search needs
 
--- src/counts.rt:42:9
 returns-3 : tie.Need-returns-3
 unfolding acceptanceFits
 returns-3 c = picked (past (omega tests) (past (omega tests) (here (ap not (sym (c .before .is-sided .ensures)) ∙ c .if3 .taken))))
 
--- src/counts.rt:45:9
 returns-4 : tie.Need-returns-4
 unfolding acceptanceFits
 returns-4 c = picked (past (omega tests) (past (omega tests) (past (ap not (sym (c .before .before .before .before .is-sided .ensures)) ∙ c .before .before .before .if3 .left) (here (omega tests)))))
 
--- src/counts.rt:29:1
 returns-5 : tie.Need-returns-5
 unfolding acceptanceFits
 returns-5 c = picked (past (omega tests) (past (omega tests) (past (ap not (sym (c .before .before .before .before .is-sided .ensures)) ∙ c .before .before .before .if3 .left) (past (omega tests) none))))

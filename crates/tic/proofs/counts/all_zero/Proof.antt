@@ -2,11 +2,9 @@ use borrow.Author.Tests.{eq-eqb, ne-eqb}
 use Rattle.tic.proofs.counts.all_zero.Statement.{statement}
 use Rattle.tic.proofs.counts.all_zero.Tie as tie
 
--- src/counts.rt:54:9
 returns : tie.Need-returns
 returns c = rw (ne-eqb _ _ (c .if1 .taken))
 
--- src/counts.rt:50:1
 returns-2 : tie.Need-returns-2
 returns-2 c = rw (eq-eqb _ _ (c .if1 .left))
 

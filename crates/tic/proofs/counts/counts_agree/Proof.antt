@@ -13,11 +13,9 @@ use Rattle.tic.specs.declared.values.TicHead.{TicHead}
 use Rattle.tic.proofs.counts.counts_agree.Statement.{statement}
 use Rattle.tic.proofs.counts.counts_agree.Tie as tie
 
--- src/counts.rt:85:18
 field-requires : tie.Need-field-requires
 field-requires c κs = search needs
 
--- src/counts.rt:85:8
 number-of-requires : tie.Need-number-of-requires
 number-of-requires c κs = digits-part _ (c .before .before .before .before .args .h .now) 105 15 (c .field .ensures) (omega arith) (digits-show _ (c .before .before .before .before .pre .digits) .again)
 
@@ -34,29 +32,23 @@ told2 c =
     ap (λ (x : ℕ). eqb x (s .args .head .rejected .0)) (c .number-of2 .ensures ∙ ap numberOf (c .before .field2 .ensures))
     ∙ ap (λ (x : TicHead). eqb (numberOf (rejectedAgain (s .args .h .now))) (x .rejected .0)) (s .pre .value)
 
--- src/counts.rt:86:9
 returns : tie.Need-returns
 unfolding countsAgree
 returns c = tested (fails (sym (told1 (c .before .before)) ∙ ne-eqb _ _ (c .if1 .taken)))
 
--- src/counts.rt:88:18
 field-requires-2 : tie.Need-field-requires-2
 field-requires-2 c κs = search needs
 
--- src/counts.rt:88:8
 number-of-requires-2 : tie.Need-number-of-requires-2
 number-of-requires-2 c κs = digits-part _ (c .before .before .before .before .before .before .before .before .args .h .now) 120 15 (c .field2 .ensures) (omega arith) (digits-show _ (c .before .before .before .before .before .before .before .before .pre .digits) .rejectedToo)
 
--- src/counts.rt:89:9
 returns-2 : tie.Need-returns-2
 unfolding countsAgree
 returns-2 c = tested (holds (sym (told1 (c .before .before .before .before .before .before)) ∙ eq-eqb _ _ (c .before .before .before .before .if1 .left)) (fails (sym (told2 (c .before .before)) ∙ ne-eqb _ _ (c .if2 .taken))))
 
--- src/counts.rt:91:5
 head-agrees-requires : tie.Need-head-agrees-requires
 head-agrees-requires c κs = search needs
 
--- src/counts.rt:79:1
 returns-3 : tie.Need-returns-3
 unfolding countsAgree
 returns-3 c =

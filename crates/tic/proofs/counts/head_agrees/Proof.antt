@@ -5,30 +5,24 @@ use Rattle.lines.specs.Tests.{tests}
 use Rattle.tic.proofs.counts.head_agrees.Statement.{statement}
 use Rattle.tic.proofs.counts.head_agrees.Tie as tie
 
--- src/counts.rt:67:9
 returns : tie.Need-returns
 unfolding headAgrees
 returns c = tested (fails (omega tests))
 
--- src/counts.rt:70:9
 returns-2 : tie.Need-returns-2
 unfolding headAgrees
 returns-2 c = tested (holds (omega tests) (fails (omega tests)))
 
--- src/counts.rt:72:8
 add-if3 : tie.Need-add-if3
 add-if3 c = search needs
 
--- src/counts.rt:73:9
 returns-3 : tie.Need-returns-3
 unfolding headAgrees
 returns-3 c = tested (holds (omega tests) (fails (omega tests)))
 
--- src/counts.rt:75:5
 acceptance-fits-requires : tie.Need-acceptance-fits-requires
 acceptance-fits-requires c κs = search needs
 
--- src/counts.rt:60:1
 returns-4 : tie.Need-returns-4
 unfolding headAgrees
 returns-4 c = tested (holds (omega tests) (holds (omega tests) (finally (c .acceptance-fits .ensures))))

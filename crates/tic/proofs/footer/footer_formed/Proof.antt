@@ -14,7 +14,6 @@ use Rattle.tic.specs.Columns.{acceptedSumField, rejectedSumField, footer
 use Rattle.tic.proofs.footer.footer_formed.Statement.{statement}
 use Rattle.tic.proofs.footer.footer_formed.Tie as tie
 
--- src/footer.rt:21:8
 shared-slice-read-if1 : tie.Need-shared-slice-read-if1
 shared-slice-read-if1 c = search needs
 
@@ -48,46 +47,36 @@ after3 c p = after2 (c .before .before .before) (holds (sym (told3 (c .before)) 
 told4 : (c : tie.After-all-of3) → c .all-of3 .result ≡ allOf (Only 48) (footerFiller (t3 (c .before .before)))
 told4 c = c .all-of3 .ensures ∙ ap (allOf (Only 48)) (c .before .field3 .ensures)
 
--- src/footer.rt:22:9
 returns : tie.Need-returns
 unfolding footerFormed
 returns c = tested (fails (ne-eqb _ _ (c .if1 .taken)))
 
--- src/footer.rt:24:30
 field-requires : tie.Need-field-requires
 field-requires c κs = search needs
 
--- src/footer.rt:24:9
 all-of-requires : tie.Need-all-of-requires
 all-of-requires c κs = search needs
 
--- src/footer.rt:25:9
 returns-2 : tie.Need-returns-2
 unfolding footerFormed
 returns-2 c = tested (after1 (c .before .before .before) (fails (sym (told2 (c .before)) ∙ not-true _ (c .if2 .taken))))
 
--- src/footer.rt:27:30
 field-requires-2 : tie.Need-field-requires-2
 field-requires-2 c κs = search needs
 
--- src/footer.rt:27:9
 all-of-requires-2 : tie.Need-all-of-requires-2
 all-of-requires-2 c κs = search needs
 
--- src/footer.rt:28:9
 returns-3 : tie.Need-returns-3
 unfolding footerFormed
 returns-3 c = tested (after2 (c .before .before .before) (fails (sym (told3 (c .before)) ∙ not-true _ (c .if3 .taken))))
 
--- src/footer.rt:30:31
 field-requires-3 : tie.Need-field-requires-3
 field-requires-3 c κs = search needs
 
--- src/footer.rt:30:5
 all-of-requires-3 : tie.Need-all-of-requires-3
 all-of-requires-3 c κs = search needs
 
--- src/footer.rt:17:1
 returns-4 : tie.Need-returns-4
 unfolding footerFormed
 returns-4 c = tested (after3 (c .before .before) (finally (told4 c)))

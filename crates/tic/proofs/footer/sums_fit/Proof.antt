@@ -10,27 +10,22 @@ use lib.Dec.{eqb, ltb}
 use Rattle.tic.proofs.footer.sums_fit.Statement.{statement}
 use Rattle.tic.proofs.footer.sums_fit.Tie as tie
 
--- src/footer.rt:50:9
 equals-requires : tie.Need-equals-requires
 equals-requires c κs = search needs
 
--- src/footer.rt:51:9
 returns : tie.Need-returns
 unfolding sumsFit
 returns c = tested (fails (sym (c .before .equals .ensures) ∙ not-true _ (c .if1 .taken)))
 
--- src/footer.rt:54:9
 returns-2 : tie.Need-returns-2
 unfolding sumsFit
 returns-2 c =
     let a = c .before .before .before .before .before .before .before .args in
     tested (holds (sym (c .before .before .before .equals .ensures) ∙ not-false _ (c .before .before .if1 .left)) (finally (sym (or-true-left (ltb 0 (a .head .accepted .0)) (eqb (a .sums .accepted .0) 0) (omega tests)))))
 
--- src/footer.rt:56:5
 equals-requires-2 : tie.Need-equals-requires-2
 equals-requires-2 c κs = search needs
 
--- src/footer.rt:44:1
 returns-3 : tie.Need-returns-3
 unfolding sumsFit
 returns-3 c =

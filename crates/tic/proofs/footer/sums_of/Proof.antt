@@ -6,23 +6,18 @@ use Rattle.tic.specs.ReadingLaws.{digits-part, footer-shows}
 use Rattle.tic.proofs.footer.sums_of.Statement.{statement}
 use Rattle.tic.proofs.footer.sums_of.Tie as tie
 
--- src/footer.rt:38:36
 field-requires : tie.Need-field-requires
 field-requires c κs = search needs
 
--- src/footer.rt:38:26
 number-of-requires : tie.Need-number-of-requires
 number-of-requires c κs = digits-part _ (c .before .before .args .f .now) 1 15 (c .field .ensures) (omega arith) (footer-shows _ (c .before .before .pre .1) .accepted)
 
--- src/footer.rt:39:36
 field-requires-2 : tie.Need-field-requires-2
 field-requires-2 c κs = search needs
 
--- src/footer.rt:39:26
 number-of-requires-2 : tie.Need-number-of-requires-2
 number-of-requires-2 c κs = digits-part _ (c .before .before .before .before .args .f .now) 16 15 (c .field2 .ensures) (omega arith) (footer-shows _ (c .before .before .before .before .pre .1) .rejected)
 
--- src/footer.rt:34:1
 returns : tie.Need-returns
 returns c =
     rw (

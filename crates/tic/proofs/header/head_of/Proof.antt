@@ -7,39 +7,30 @@ use Rattle.tic.specs.Reading.{sideIn}
 use Rattle.tic.proofs.header.head_of.Statement.{statement}
 use Rattle.tic.proofs.header.head_of.Tie as tie
 
--- src/header.rt:156:32
 field-requires : tie.Need-field-requires
 field-requires c κs = search needs
 
--- src/header.rt:156:9
 number-of-requires : tie.Need-number-of-requires
 number-of-requires c κs = digits-part _ (c .before .before .args .h .now) 193 2 (c .field .ensures) (omega arith) (digits-show _ (c .before .before .pre .1) .acceptance)
 
--- src/header.rt:157:24
 field-requires-2 : tie.Need-field-requires-2
 field-requires-2 c κs = search needs
 
--- src/header.rt:157:9
 side-in-requires : tie.Need-side-in-requires
 side-in-requires c κs = search needs
 
--- src/header.rt:158:36
 field-requires-3 : tie.Need-field-requires-3
 field-requires-3 c κs = search needs
 
--- src/header.rt:158:26
 number-of-requires-2 : tie.Need-number-of-requires-2
 number-of-requires-2 c κs = digits-part _ (c .before .before .before .before .before .before .args .h .now) 72 15 (c .field3 .ensures) (omega arith) (digits-show _ (c .before .before .before .before .before .before .pre .1) .accepted)
 
--- src/header.rt:159:36
 field-requires-4 : tie.Need-field-requires-4
 field-requires-4 c κs = search needs
 
--- src/header.rt:159:26
 number-of-requires-3 : tie.Need-number-of-requires-3
 number-of-requires-3 c κs = digits-part _ (c .before .before .before .before .before .before .before .before .args .h .now) 87 15 (c .field4 .ensures) (omega arith) (digits-show _ (c .before .before .before .before .before .before .before .before .pre .1) .rejected)
 
--- src/header.rt:152:1
 returns : tie.Need-returns
 returns c =
     rw (

@@ -14,11 +14,9 @@ use Rattle.tic.specs.Columns.{acceptedField, rejectedField, acceptedAgai
 use Rattle.tic.proofs.header.header_digits.Statement.{statement}
 use Rattle.tic.proofs.header.header_digits.Tie as tie
 
--- src/header.rt:109:30
 field-requires : tie.Need-field-requires
 field-requires c κs = search needs
 
--- src/header.rt:109:9
 all-of-requires : tie.Need-all-of-requires
 all-of-requires c κs = search needs
 
@@ -67,59 +65,46 @@ told5 : (c : tie.After-all-of5) → c .all-of5 .result ≡ allDigits (acceptance
 unfolding allDigits
 told5 c = c .all-of5 .ensures ∙ ap (allOf Digit) (c .before .field5 .ensures)
 
--- src/header.rt:110:9
 returns : tie.Need-returns
 unfolding headerDigits
 returns c = tested (fails (sym (told1 (c .before)) ∙ not-true _ (c .if1 .taken)))
 
--- src/header.rt:112:30
 field-requires-2 : tie.Need-field-requires-2
 field-requires-2 c κs = search needs
 
--- src/header.rt:112:9
 all-of-requires-2 : tie.Need-all-of-requires-2
 all-of-requires-2 c κs = search needs
 
--- src/header.rt:113:9
 returns-2 : tie.Need-returns-2
 unfolding headerDigits
 returns-2 c = tested (after1 (c .before .before .before) (fails (sym (told2 (c .before)) ∙ not-true _ (c .if2 .taken))))
 
--- src/header.rt:115:30
 field-requires-3 : tie.Need-field-requires-3
 field-requires-3 c κs = search needs
 
--- src/header.rt:115:9
 all-of-requires-3 : tie.Need-all-of-requires-3
 all-of-requires-3 c κs = search needs
 
--- src/header.rt:116:9
 returns-3 : tie.Need-returns-3
 unfolding headerDigits
 returns-3 c = tested (after2 (c .before .before .before) (fails (sym (told3 (c .before)) ∙ not-true _ (c .if3 .taken))))
 
--- src/header.rt:118:30
 field-requires-4 : tie.Need-field-requires-4
 field-requires-4 c κs = search needs
 
--- src/header.rt:118:9
 all-of-requires-4 : tie.Need-all-of-requires-4
 all-of-requires-4 c κs = search needs
 
--- src/header.rt:119:9
 returns-4 : tie.Need-returns-4
 unfolding headerDigits
 returns-4 c = tested (after3 (c .before .before .before) (fails (sym (told4 (c .before)) ∙ not-true _ (c .if4 .taken))))
 
--- src/header.rt:121:26
 field-requires-5 : tie.Need-field-requires-5
 field-requires-5 c κs = search needs
 
--- src/header.rt:121:5
 all-of-requires-5 : tie.Need-all-of-requires-5
 all-of-requires-5 c κs = search needs
 
--- src/header.rt:105:1
 returns-5 : tie.Need-returns-5
 unfolding headerDigits
 returns-5 c = tested (after4 (c .before .before) (finally (told5 c)))

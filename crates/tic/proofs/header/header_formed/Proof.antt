@@ -17,11 +17,9 @@ use Rattle.tif.specs.Name.{version}
 use Rattle.tic.proofs.header.header_formed.Statement.{statement}
 use Rattle.tic.proofs.header.header_formed.Tie as tie
 
--- src/header.rt:86:19
 field-requires : tie.Need-field-requires
 field-requires c κs = search needs
 
--- src/header.rt:86:9
 is-moment-requires : tie.Need-is-moment-requires
 is-moment-requires c κs = search needs
 
@@ -74,80 +72,62 @@ after5 c p = after4 (c .before .before .before) (holds (sym (told5 (c .before)) 
 told6 : (c : tie.After-all-of2) → c .all-of2 .result ≡ allOf (Only 48) (headerFiller (t5 (c .before .before)))
 told6 c = c .all-of2 .ensures ∙ ap (allOf (Only 48)) (c .before .field6 .ensures)
 
--- src/header.rt:87:9
 returns : tie.Need-returns
 unfolding headerFormed
 returns c = tested (fails (sym (told1 (c .before)) ∙ not-true _ (c .if1 .taken)))
 
--- src/header.rt:89:17
 field-requires-2 : tie.Need-field-requires-2
 field-requires-2 c κs = search needs
 
--- src/header.rt:89:37
 slice-aggregate-is-same : tie.Need-slice-aggregate-is-same
 slice-aggregate-is-same c = search needs
 
--- src/header.rt:89:9
 is-same-requires : tie.Need-is-same-requires
 is-same-requires c κs = search needs
 
--- src/header.rt:90:9
 returns-2 : tie.Need-returns-2
 unfolding headerFormed
 returns-2 c = tested (after1 (c .before .before .before .before) (fails (sym (told2 (c .before)) ∙ not-true _ (c .if2 .taken))))
 
--- src/header.rt:92:17
 field-requires-3 : tie.Need-field-requires-3
 field-requires-3 c κs = search needs
 
--- src/header.rt:92:9
 is-side-requires : tie.Need-is-side-requires
 is-side-requires c κs = search needs
 
--- src/header.rt:93:9
 returns-3 : tie.Need-returns-3
 unfolding headerFormed
 returns-3 c = tested (after2 (c .before .before .before) (fails (sym (told3 (c .before)) ∙ not-true _ (c .if3 .taken))))
 
--- src/header.rt:95:17
 field-requires-4 : tie.Need-field-requires-4
 field-requires-4 c κs = search needs
 
--- src/header.rt:95:40
 slice-aggregate-is-same-2 : tie.Need-slice-aggregate-is-same-2
 slice-aggregate-is-same-2 c = search needs
 
--- src/header.rt:95:9
 is-same-requires-2 : tie.Need-is-same-requires-2
 is-same-requires-2 c κs = search needs
 
--- src/header.rt:96:9
 returns-4 : tie.Need-returns-4
 unfolding headerFormed
 returns-4 c = tested (after3 (c .before .before .before .before) (fails (sym (told4 (c .before)) ∙ not-true _ (c .if4 .taken))))
 
--- src/header.rt:98:35
 field-requires-5 : tie.Need-field-requires-5
 field-requires-5 c κs = search needs
 
--- src/header.rt:98:9
 all-of-requires : tie.Need-all-of-requires
 all-of-requires c κs = search needs
 
--- src/header.rt:99:9
 returns-5 : tie.Need-returns-5
 unfolding headerFormed
 returns-5 c = tested (after4 (c .before .before .before) (fails (sym (told5 (c .before)) ∙ not-true _ (c .if5 .taken))))
 
--- src/header.rt:101:31
 field-requires-6 : tie.Need-field-requires-6
 field-requires-6 c κs = search needs
 
--- src/header.rt:101:5
 all-of-requires-2 : tie.Need-all-of-requires-2
 all-of-requires-2 c κs = search needs
 
--- src/header.rt:82:1
 returns-6 : tie.Need-returns-6
 unfolding headerFormed
 returns-6 c = tested (after5 (c .before .before) (finally (told6 c)))

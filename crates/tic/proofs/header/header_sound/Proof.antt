@@ -10,7 +10,6 @@ use Rattle.tic.specs.Reading.{headerTests, headerSound, namesOneTif, hea
 use Rattle.tic.proofs.header.header_sound.Statement.{statement}
 use Rattle.tic.proofs.header.header_sound.Tie as tie
 
--- src/header.rt:129:9
 names-one-tif-requires : tie.Need-names-one-tif-requires
 names-one-tif-requires c κs = search needs
 
@@ -36,25 +35,20 @@ after2 c p = after1 (c .before .before) (holds (sym (told2 (c .before)) ∙ not-
 told3 : (c : tie.After-header-digits) → c .header-digits .result ≡ headerDigits (t2 (c .before))
 told3 c = c .header-digits .ensures
 
--- src/header.rt:130:9
 returns : tie.Need-returns
 unfolding headerSound
 returns c = tested (fails (sym (told1 (c .before)) ∙ not-true _ (c .if1 .taken)))
 
--- src/header.rt:132:9
 header-formed-requires : tie.Need-header-formed-requires
 header-formed-requires c κs = search needs
 
--- src/header.rt:133:9
 returns-2 : tie.Need-returns-2
 unfolding headerSound
 returns-2 c = tested (after1 (c .before .before) (fails (sym (told2 (c .before)) ∙ not-true _ (c .if2 .taken))))
 
--- src/header.rt:135:5
 header-digits-requires : tie.Need-header-digits-requires
 header-digits-requires c κs = search needs
 
--- src/header.rt:125:1
 returns-3 : tie.Need-returns-3
 unfolding headerSound
 returns-3 c = tested (after2 (c .before) (finally (told3 c)))

@@ -4,41 +4,32 @@ use Rattle.tic.specs.Reading.{isSide}
 use Rattle.tic.proofs.header.is_side.Statement.{statement}
 use Rattle.tic.proofs.header.is_side.Tie as tie
 
--- src/header.rt:72:19
 slice-aggregate-is-same : tie.Need-slice-aggregate-is-same
 slice-aggregate-is-same c = search needs
 
--- src/header.rt:72:8
 is-same-requires : tie.Need-is-same-requires
 is-same-requires c κs = search needs
 
--- src/header.rt:73:9
 returns : tie.Need-returns
 unfolding isSide
 returns c = rw (sym (c .before .is-same .ensures) ∙ c .if1 .taken)
 
--- src/header.rt:75:19
 slice-aggregate-is-same-2 : tie.Need-slice-aggregate-is-same-2
 slice-aggregate-is-same-2 c = search needs
 
--- src/header.rt:75:8
 is-same-requires-2 : tie.Need-is-same-requires-2
 is-same-requires-2 c κs = search needs
 
--- src/header.rt:76:9
 returns-2 : tie.Need-returns-2
 unfolding isSide
 returns-2 c = rw (sym (c .before .before .before .before .is-same .ensures) ∙ c .before .before .before .if1 .left, sym (c .before .is-same2 .ensures) ∙ c .if2 .taken)
 
--- src/header.rt:78:16
 slice-aggregate-is-same-3 : tie.Need-slice-aggregate-is-same-3
 slice-aggregate-is-same-3 c = search needs
 
--- src/header.rt:78:5
 is-same-requires-3 : tie.Need-is-same-requires-3
 is-same-requires-3 c κs = search needs
 
--- src/header.rt:69:1
 returns-3 : tie.Need-returns-3
 unfolding isSide
 returns-3 c = rw (sym (c .before .before .before .before .before .before .is-same .ensures) ∙ c .before .before .before .before .before .if1 .left, sym (c .before .before .before .is-same2 .ensures) ∙ c .before .before .if2 .left) (c .is-same3 .ensures)

@@ -15,7 +15,6 @@ use Rattle.tif.specs.Name.{tifKind, isActor, isFileStem}
 use Rattle.tic.proofs.header.names_one_tif.Statement.{statement}
 use Rattle.tic.proofs.header.names_one_tif.Tie as tie
 
--- src/header.rt:47:8
 shared-slice-read-if1 : tie.Need-shared-slice-read-if1
 shared-slice-read-if1 c = search needs
 
@@ -74,101 +73,78 @@ after6 c p = after5 (c .before .before .before .before) (holds (sym (told6 (c .b
 told7 : (c : tie.After-is-file-stem) → c .is-file-stem .result ≡ isFileStem (receivedStem (t6 (c .before .before)))
 told7 c = c .is-file-stem .ensures ∙ ap isFileStem (c .before .field8 .ensures)
 
--- src/header.rt:48:9
 returns : tie.Need-returns
 unfolding namesOneTif
 returns c = tested (fails (ne-eqb _ _ (c .if1 .taken)))
 
--- src/header.rt:50:18
 field-requires : tie.Need-field-requires
 field-requires c κs = search needs
 
--- src/header.rt:50:9
 is-actor-requires : tie.Need-is-actor-requires
 is-actor-requires c κs = search needs
 
--- src/header.rt:51:9
 returns-2 : tie.Need-returns-2
 unfolding namesOneTif
 returns-2 c = tested (after1 (c .before .before .before) (fails (sym (told2 (c .before)) ∙ not-true _ (c .if2 .taken))))
 
--- src/header.rt:53:17
 field-requires-2 : tie.Need-field-requires-2
 field-requires-2 c κs = search needs
 
--- src/header.rt:53:39
 field-requires-3 : tie.Need-field-requires-3
 field-requires-3 c κs = search needs
 
--- src/header.rt:53:9
 is-same-requires : tie.Need-is-same-requires
 is-same-requires c κs = search needs
 
--- src/header.rt:54:9
 returns-3 : tie.Need-returns-3
 unfolding namesOneTif
 returns-3 c = tested (after2 (c .before .before .before .before) (fails (sym (told3 (c .before)) ∙ not-true _ (c .if3 .taken))))
 
--- src/header.rt:56:17
 field-requires-4 : tie.Need-field-requires-4
 field-requires-4 c κs = search needs
 
--- src/header.rt:56:37
 slice-aggregate-is-same : tie.Need-slice-aggregate-is-same
 slice-aggregate-is-same c = search needs
 
--- src/header.rt:56:9
 is-same-requires-2 : tie.Need-is-same-requires-2
 is-same-requires-2 c κs = search needs
 
--- src/header.rt:57:9
 returns-4 : tie.Need-returns-4
 unfolding namesOneTif
 returns-4 c = tested (after3 (c .before .before .before .before) (fails (sym (told4 (c .before)) ∙ not-true _ (c .if4 .taken))))
 
--- src/header.rt:59:17
 field-requires-5 : tie.Need-field-requires-5
 field-requires-5 c κs = search needs
 
--- src/header.rt:59:37
 field-requires-6 : tie.Need-field-requires-6
 field-requires-6 c κs = search needs
 
--- src/header.rt:59:9
 is-same-requires-3 : tie.Need-is-same-requires-3
 is-same-requires-3 c κs = search needs
 
--- src/header.rt:60:9
 returns-5 : tie.Need-returns-5
 unfolding namesOneTif
 returns-5 c = tested (after4 (c .before .before .before .before) (fails (sym (told5 (c .before)) ∙ not-true _ (c .if5 .taken))))
 
--- src/header.rt:62:17
 field-requires-7 : tie.Need-field-requires-7
 field-requires-7 c κs = search needs
 
--- src/header.rt:62:42
 slice-aggregate-is-same-2 : tie.Need-slice-aggregate-is-same-2
 slice-aggregate-is-same-2 c = search needs
 
--- src/header.rt:62:9
 is-same-requires-4 : tie.Need-is-same-requires-4
 is-same-requires-4 c κs = search needs
 
--- src/header.rt:63:9
 returns-6 : tie.Need-returns-6
 unfolding namesOneTif
 returns-6 c = tested (after5 (c .before .before .before .before) (fails (sym (told6 (c .before)) ∙ not-true _ (c .if6 .taken))))
 
--- src/header.rt:65:18
 field-requires-8 : tie.Need-field-requires-8
 field-requires-8 c κs = record { first = omega arith; order = omega arith; last = omega (arith, c .before .before .before .before .before .before .before .before .before .before .before .before .before .before .before .before .before .before .before .before .before .before .pre) }
 
--- src/header.rt:65:5
 is-file-stem-requires : tie.Need-is-file-stem-requires
 is-file-stem-requires c κs = search needs
 
--- src/header.rt:43:1
 returns-7 : tie.Need-returns-7
 unfolding namesOneTif
 returns-7 c = tested (after6 (c .before .before) (finally (told7 c)))

@@ -5,33 +5,26 @@ use Rattle.lines.specs.FirstOf.{picked, here, past, none}
 use Rattle.tic.proofs.header.side_in.Statement.{statement}
 use Rattle.tic.proofs.header.side_in.Tie as tie
 
--- src/header.rt:142:19
 slice-aggregate-is-same : tie.Need-slice-aggregate-is-same
 slice-aggregate-is-same c = search needs
 
--- src/header.rt:142:8
 is-same-requires : tie.Need-is-same-requires
 is-same-requires c κs = search needs
 
--- src/header.rt:143:9
 returns : tie.Need-returns
 unfolding sideIn
 returns c = picked (here (sym (c .before .is-same .ensures) ∙ c .if1 .taken))
 
--- src/header.rt:145:19
 slice-aggregate-is-same-2 : tie.Need-slice-aggregate-is-same-2
 slice-aggregate-is-same-2 c = search needs
 
--- src/header.rt:145:8
 is-same-requires-2 : tie.Need-is-same-requires-2
 is-same-requires-2 c κs = search needs
 
--- src/header.rt:146:9
 returns-2 : tie.Need-returns-2
 unfolding sideIn
 returns-2 c = picked (past (sym (c .before .before .before .before .is-same .ensures) ∙ c .before .before .before .if1 .left) (here (sym (c .before .is-same2 .ensures) ∙ c .if2 .taken)))
 
--- src/header.rt:139:1
 returns-3 : tie.Need-returns-3
 unfolding sideIn
 returns-3 c = picked (past (sym (c .before .before .before .before .is-same .ensures) ∙ c .before .before .before .if1 .left) (past (sym (c .before .is-same2 .ensures) ∙ c .if2 .left) none))

@@ -5,19 +5,15 @@ use Rattle.tic.specs.PieceLaws.{put-first, put-pieces}
 use Rattle.tic.proofs.header_text.put_actors.Statement.{statement}
 use Rattle.tic.proofs.header_text.put_actors.Tie as tie
 
--- src/header_text.rt:30:9
 put-run-requires : tie.Need-put-run-requires
 put-run-requires c κs = search needs
 
--- src/header_text.rt:31:5
 put-pair-requires : tie.Need-put-pair-requires
 put-pair-requires c κs = search needs
 
--- src/header_text.rt:26:1
 same-length : tie.Need-same-length
 same-length c = search needs
 
--- src/header_text.rt:26:1
 returns : tie.Need-returns
 returns c =
     let a = c .before .before .before .before .before .before .before .before .before .before .before .args in

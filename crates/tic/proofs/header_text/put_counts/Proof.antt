@@ -8,27 +8,22 @@ use Rattle.tif.specs.Side.{sideText}
 use Rattle.tic.proofs.header_text.put_counts.Statement.{statement}
 use Rattle.tic.proofs.header_text.put_counts.Tie as tie
 
--- src/header_text.rt:82:9
 put-numbers-requires : tie.Need-put-numbers-requires
 put-numbers-requires c κs = search needs
 
--- src/header_text.rt:83:9
 put-side-requires : tie.Need-put-side-requires
 put-side-requires c κs =
     let h = c .before .before .before .before .before .before .before .before .args .head in
     omega (arith, joined-length (numberPieces (h .accepted .0) (h .rejected .0)), number-width (h .accepted .0) (h .rejected .0))
 
--- src/header_text.rt:84:5
 put-numbers-requires-2 : tie.Need-put-numbers-requires-2
 put-numbers-requires-2 c κs =
     let h = c .before .before .before .before .before .before .before .before .before .before .before .before .args .head in
     omega (arith, joined-length (numberPieces (h .accepted .0) (h .rejected .0)), number-width (h .accepted .0) (h .rejected .0), side-length (h .side))
 
--- src/header_text.rt:75:1
 same-length : tie.Need-same-length
 same-length c = search needs
 
--- src/header_text.rt:75:1
 returns : tie.Need-returns
 returns c =
     let a = c .before .before .before .before .before .before .before .before .before .before .before .before .before .before .before .args in

@@ -9,23 +9,18 @@ use Rattle.tic.specs.TextLaws.{filler-width}
 use Rattle.tic.proofs.header_text.put_end.Statement.{statement}
 use Rattle.tic.proofs.header_text.put_end.Tie as tie
 
--- src/header_text.rt:102:9
 put-fillers-requires : tie.Need-put-fillers-requires
 put-fillers-requires c κs = search needs
 
--- src/header_text.rt:103:9
 put-digits-requires : tie.Need-put-digits-requires
 put-digits-requires c κs = omega (arith, joined-length fillerPieces, filler-width)
 
--- src/header_text.rt:104:5
 put-run-requires : tie.Need-put-run-requires
 put-run-requires c κs = omega (arith, joined-length fillerPieces, filler-width, digits-length 2 (c .before .before .before .before .before .before .before .before .before .before .args .acceptance))
 
--- src/header_text.rt:98:1
 same-length : tie.Need-same-length
 same-length c = search needs
 
--- src/header_text.rt:98:1
 returns : tie.Need-returns
 returns c =
     let a = c .before .before .before .before .before .before .before .before .before .before .before .before .before .args in

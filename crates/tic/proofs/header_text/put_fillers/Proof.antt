@@ -7,27 +7,21 @@ use Rattle.tif.specs.Name.{version}
 use Rattle.tic.proofs.header_text.put_fillers.Statement.{statement}
 use Rattle.tic.proofs.header_text.put_fillers.Tie as tie
 
--- src/header_text.rt:92:34
 slice-aggregate-put-bytes : tie.Need-slice-aggregate-put-bytes
 slice-aggregate-put-bytes c = search needs
 
--- src/header_text.rt:92:9
 put-bytes-requires : tie.Need-put-bytes-requires
 put-bytes-requires c κs = search needs
 
--- src/header_text.rt:93:9
 put-run-requires : tie.Need-put-run-requires
 put-run-requires c κs = search needs
 
--- src/header_text.rt:94:5
 put-run-requires-2 : tie.Need-put-run-requires-2
 put-run-requires-2 c κs = search needs
 
--- src/header_text.rt:88:1
 same-length : tie.Need-same-length
 same-length c = search needs
 
--- src/header_text.rt:88:1
 returns : tie.Need-returns
 unfolding blanks zeros
 returns c =

@@ -12,14 +12,12 @@ use Rattle.tif.specs.Header.{nok}
 use Rattle.tic.proofs.header_text.put_front.Statement.{statement}
 use Rattle.tic.proofs.header_text.put_front.Tie as tie
 
--- src/header_text.rt:50:9
 field-requires : tie.Need-field-requires
 field-requires c κs = search needs
 
 sender-long : (c : tie.After-field) → length (c .field .result .now) ≡ 6
 sender-long c = let s = c .before .before .before .before .before in ap length (c .field .ensures) ∙ part-length 0 6 (s .args .stem .now) (omega (arith, s .pre .stemLong))
 
--- src/header_text.rt:51:9
 put-actors-requires : tie.Need-put-actors-requires
 put-actors-requires c κs =
     let s = c .before .before .before .before .before .before in
@@ -36,29 +34,23 @@ sequences-end c =
     let s = c .before .before .before .before .before .before .before .before .before .before .before in
     c .put-sequences .ensures .place ∙ omega (arith, joined-length (sequencePieces (s .args .stem .now)), actors-end (c .before .before .before .before), s .pre .stemLong)
 
--- src/header_text.rt:52:9
 put-sequences-requires : tie.Need-put-sequences-requires
 put-sequences-requires c κs =
     let s = c .before .before .before .before .before .before .before .before .before .before in
     (s .pre .stemLong, omega (arith, actors-end (c .before .before .before), s .pre .room))
 
--- src/header_text.rt:53:9
 put-bytes-requires : tie.Need-put-bytes-requires
 put-bytes-requires c κs = omega (arith, sequences-end (c .before .before .before), c .before .before .before .before .before .before .before .before .before .before .before .before .before .before .pre .room, c .before .before .before .before .before .before .before .before .before .before .before .before .before .before .pre .momentLong)
 
--- src/header_text.rt:54:25
 slice-aggregate-put-bytes : tie.Need-slice-aggregate-put-bytes
 slice-aggregate-put-bytes c = search needs
 
--- src/header_text.rt:54:5
 put-bytes-requires-2 : tie.Need-put-bytes-requires-2
 put-bytes-requires-2 c κs = omega (arith, sequences-end (c .before .before .before .before .before .before .before .before), c .before .before .before .before .put-bytes .ensures .place, c .before .before .before .before .before .before .before .before .before .before .before .before .before .before .before .before .before .before .before .pre .room, c .before .before .before .before .before .before .before .before .before .before .before .before .before .before .before .before .before .before .before .pre .momentLong)
 
--- src/header_text.rt:46:1
 same-length : tie.Need-same-length
 same-length c = search needs
 
--- src/header_text.rt:46:1
 returns : tie.Need-returns
 returns c =
     let z = c .before .before .before .before .before .before .before .before .before .before .before .before .before .before .before .before .before .before .before .before .before .before in

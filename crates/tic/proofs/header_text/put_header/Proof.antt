@@ -7,29 +7,24 @@ use Rattle.tic.specs.TextLaws.{front-width, count-width}
 use Rattle.tic.proofs.header_text.put_header.Statement.{statement}
 use Rattle.tic.proofs.header_text.put_header.Tie as tie
 
--- src/header_text.rt:112:9
 put-front-requires : tie.Need-put-front-requires
 put-front-requires c κs = search needs
 
--- src/header_text.rt:113:9
 put-counts-requires : tie.Need-put-counts-requires
 put-counts-requires c κs =
     let s = c .before .before .before .before .before .before .before .before .before in
     let a = s .args in
     omega (arith, joined-length (frontPieces (a .receiver .now) (a .stem .now) (a .moment .now)), front-width (a .receiver .now) (a .stem .now) (a .moment .now) (s .pre .receiverLong) (s .pre .stemLong) (s .pre .momentLong))
 
--- src/header_text.rt:114:5
 put-end-requires : tie.Need-put-end-requires
 put-end-requires c κs =
     let s = c .before .before .before .before .before .before .before .before .before .before .before .before .before in
     let a = s .args in
     omega (arith, joined-length (frontPieces (a .receiver .now) (a .stem .now) (a .moment .now)), front-width (a .receiver .now) (a .stem .now) (a .moment .now) (s .pre .receiverLong) (s .pre .stemLong) (s .pre .momentLong), joined-length (countPieces (a .head)), count-width (a .head))
 
--- src/header_text.rt:108:1
 same-length : tie.Need-same-length
 same-length c = search needs
 
--- src/header_text.rt:108:1
 returns : tie.Need-returns
 unfolding headerText
 returns c =

@@ -7,27 +7,21 @@ use Rattle.tif.specs.Name.{tifKind}
 use Rattle.tic.proofs.header_text.put_sequences.Statement.{statement}
 use Rattle.tic.proofs.header_text.put_sequences.Tie as tie
 
--- src/header_text.rt:39:33
 slice-aggregate-put-pair : tie.Need-slice-aggregate-put-pair
 slice-aggregate-put-pair c = search needs
 
--- src/header_text.rt:39:9
 put-pair-requires : tie.Need-put-pair-requires
 put-pair-requires c κs = search needs
 
--- src/header_text.rt:40:24
 slice-aggregate-put-pair-2 : tie.Need-slice-aggregate-put-pair-2
 slice-aggregate-put-pair-2 c = search needs
 
--- src/header_text.rt:40:5
 put-pair-requires-2 : tie.Need-put-pair-requires-2
 put-pair-requires-2 c κs = omega (arith, joined-length (ticKind ∷ c .before .before .before .before .before .before .before .before .before .args .stem .now ∷ []))
 
--- src/header_text.rt:35:1
 same-length : tie.Need-same-length
 same-length c = search needs
 
--- src/header_text.rt:35:1
 returns : tie.Need-returns
 returns c =
     let a = c .before .before .before .before .before .before .before .before .before .before .before .before .args in

@@ -4,67 +4,52 @@ use Rattle.tif.specs.declared.side.Side.{Side}
 use Rattle.tic.proofs.header_text.put_side.Statement.{statement}
 use Rattle.tic.proofs.header_text.put_side.Tie as tie
 
--- src/header_text.rt:68:35
 enum-told : tie.Need-enum-told
 enum-told c = search needs
 
--- src/header_text.rt:68:44
 slice-aggregate-put-bytes : tie.Need-slice-aggregate-put-bytes
 slice-aggregate-put-bytes c = search needs
 
--- src/header_text.rt:68:25
 put-bytes-requires : tie.Need-put-bytes-requires
 put-bytes-requires c κs = search needs
 
--- src/header_text.rt:69:34
 enum-told-2 : tie.Need-enum-told-2
 enum-told-2 c = search needs
 
--- src/header_text.rt:69:43
 slice-aggregate-put-bytes-2 : tie.Need-slice-aggregate-put-bytes-2
 slice-aggregate-put-bytes-2 c = search needs
 
--- src/header_text.rt:69:24
 put-bytes-requires-2 : tie.Need-put-bytes-requires-2
 put-bytes-requires-2 c κs = search needs
 
--- src/header_text.rt:70:36
 enum-told-3 : tie.Need-enum-told-3
 enum-told-3 c = search needs
 
--- src/header_text.rt:70:45
 slice-aggregate-put-bytes-3 : tie.Need-slice-aggregate-put-bytes-3
 slice-aggregate-put-bytes-3 c = search needs
 
--- src/header_text.rt:70:26
 put-bytes-requires-3 : tie.Need-put-bytes-requires-3
 put-bytes-requires-3 c κs = search needs
 
--- src/header_text.rt:63:1
 same-length : tie.Need-same-length
 same-length c = search needs
 
--- src/header_text.rt:63:1
 returns : tie.Need-returns
 returns c =
     let e : c .before .before .before .before .before .before .before .before .args .side ≡ Side.Credit = cc in
     rw e (c .before .before .put-bytes .ensures)
 
--- src/header_text.rt:63:1
 same-length-2 : tie.Need-same-length-2
 same-length-2 c = search needs
 
--- src/header_text.rt:63:1
 returns-2 : tie.Need-returns-2
 returns-2 c =
     let e : c .before .before .before .before .before .before .before .before .args .side ≡ Side.Debit = cc in
     rw e (c .before .before .put-bytes2 .ensures)
 
--- src/header_text.rt:63:1
 same-length-3 : tie.Need-same-length-3
 same-length-3 c = search needs
 
--- src/header_text.rt:63:1
 returns-3 : tie.Need-returns-3
 returns-3 c =
     let e : c .before .before .before .before .before .before .before .before .args .side ≡ Side.Neither = cc in

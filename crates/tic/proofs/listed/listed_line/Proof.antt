@@ -5,28 +5,22 @@ use Rattle.tic.specs.Readable.{read-shows}
 use Rattle.tic.proofs.listed.listed_line.Statement.{statement}
 use Rattle.tic.proofs.listed.listed_line.Tie as tie
 
--- src/listed.rt:36:11
 read-tic-requires : tie.Need-read-tic-requires
 read-tic-requires c κs = search needs
 
--- src/listed.rt:37:32
 enum-known-fault : tie.Need-enum-known-fault
 enum-known-fault c = search needs
 
--- src/listed.rt:38:28
 enum-known-values : tie.Need-enum-known-values
 enum-known-values c = search needs
 
--- src/listed.rt:38:39
 listed-place-requires : tie.Need-listed-place-requires
 listed-place-requires c κs = read-shows _ _ (sym (c .before .before .before .read-tic .ensures) ∙ c .before .values .given .1) .0 .whole .counted .few
 
--- src/listed.rt:33:1
 returns : tie.Need-returns
 unfolding listedLine
 returns c = rw (sym (c .before .before .before .read-tic .ensures) ∙ c .before .fault .given .1)
 
--- src/listed.rt:33:1
 returns-2 : tie.Need-returns-2
 unfolding listedLine
 returns-2 c = rw (sym (c .before .before .before .before .read-tic .ensures) ∙ c .before .before .values .given .1) (c .listed-place .ensures)

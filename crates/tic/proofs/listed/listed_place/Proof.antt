@@ -5,33 +5,26 @@ use Rattle.lines.specs.Tests.{tests}
 use Rattle.tic.proofs.listed.listed_place.Statement.{statement}
 use Rattle.tic.proofs.listed.listed_place.Tie as tie
 
--- src/listed.rt:23:9
 returns : tie.Need-returns
 unfolding listedPlace
 returns c = picked (here (omega tests))
 
--- src/listed.rt:26:9
 returns-2 : tie.Need-returns-2
 unfolding listedPlace
 returns-2 c = picked (past (omega tests) (here (omega tests)))
 
--- src/listed.rt:28:30
 sub-line : tie.Need-sub-line
 sub-line c = search needs
 
--- src/listed.rt:28:29
 mul-line : tie.Need-mul-line
 mul-line c = search needs
 
--- src/listed.rt:28:16
 add-line : tie.Need-add-line
 add-line c = search needs
 
--- src/listed.rt:29:22
 add-t6 : tie.Need-add-t6
 add-t6 c = search needs
 
--- src/listed.rt:18:1
 returns-3 : tie.Need-returns-3
 unfolding listedPlace
 returns-3 c = picked (past (omega tests) (past (omega tests) none))

@@ -8,41 +8,32 @@ use lib.Seq.{take-nil, take-all}
 use Rattle.tic.proofs.listed.part_of.Statement.{statement}
 use Rattle.tic.proofs.listed.part_of.Tie as tie
 
--- src/listed.rt:47:16
 sub-result : tie.Need-sub-result
 sub-result c = search needs
 
--- src/listed.rt:47:16
 part-result-start : tie.Need-part-result-start
 part-result-start c = search needs
 
--- src/listed.rt:47:16
 part-result-end : tie.Need-part-result-end
 part-result-end c = search needs
 
--- src/listed.rt:47:9
 returns : tie.Need-returns
 returns c =
     let a = c .before .before .args in
     sym (ap (take (a .width)) (drop-of-length-le (a .s .now) {i = a .from} (omega arith)) ∙ take-nil (a .width))
 
--- src/listed.rt:49:16
 sub-left : tie.Need-sub-left
 sub-left c = search needs
 
--- src/listed.rt:51:16
 sub-result-2 : tie.Need-sub-result-2
 sub-result-2 c = search needs
 
--- src/listed.rt:51:16
 part-result-start-2 : tie.Need-part-result-start-2
 part-result-start-2 c = search needs
 
--- src/listed.rt:51:16
 part-result-end-2 : tie.Need-part-result-end-2
 part-result-end-2 c = search needs
 
--- src/listed.rt:51:9
 returns-2 : tie.Need-returns-2
 returns-2 c =
     let a = c .before .before .before .args in
@@ -50,23 +41,18 @@ returns-2 c =
     take-all (length (a .s .now) - a .from) d (omega (arith, length-drop (a .from) (a .s .now)))
     ∙ sym (take-all (a .width) d (omega (arith, length-drop (a .from) (a .s .now))))
 
--- src/listed.rt:53:14
 add-to : tie.Need-add-to
 add-to c = search needs
 
--- src/listed.rt:54:5
 sub-result-3 : tie.Need-sub-result-3
 sub-result-3 c = search needs
 
--- src/listed.rt:54:5
 part-result-start-3 : tie.Need-part-result-start-3
 part-result-start-3 c = search needs
 
--- src/listed.rt:54:5
 part-result-end-3 : tie.Need-part-result-end-3
 part-result-end-3 c = search needs
 
--- src/listed.rt:43:1
 returns-3 : tie.Need-returns-3
 returns-3 c =
     let a = c .before .before .before .args in

@@ -8,23 +8,18 @@ use mathlib.Core.Bool.{true≢false}
 use Rattle.tic.proofs.number.number_of.Statement.{statement}
 use Rattle.tic.proofs.number.number_of.Tie as tie
 
--- src/number.rt:14:11
 read-digits-requires : tie.Need-read-digits-requires
 read-digits-requires c κs = search needs
 
--- src/number.rt:15:23
 enum-known-v : tie.Need-enum-known-v
 enum-known-v c = search needs
 
--- src/number.rt:16:30
 enum-told : tie.Need-enum-told
 enum-told c = search needs
 
--- src/number.rt:10:1
 returns : tie.Need-returns
 returns c = read-good _ _ (sym (c .before .before .before .read-digits .ensures) ∙ c .before .v .given .1) .1
 
--- src/number.rt:10:1
 returns-2 : tie.Need-returns-2
 returns-2 c =
     let s = c .before .before .before .before in

@@ -20,19 +20,15 @@ use Rattle.tic.specs.declared.values.TicReading.the-variants.{Values}
 use Rattle.tic.proofs.reading.read_tic.Statement.{statement}
 use Rattle.tic.proofs.reading.read_tic.Tie as tie
 
--- src/reading.rt:24:24
 framed-lines-requires : tie.Need-framed-lines-requires
 framed-lines-requires c κs = search needs
 
--- src/reading.rt:24:19
 enum-known-n : tie.Need-enum-known-n
 enum-known-n c = search needs
 
--- src/reading.rt:25:39
 enum-told : tie.Need-enum-told
 enum-told c = search needs
 
--- src/reading.rt:25:9
 returns : tie.Need-returns
 returns c =
     let e : framedLines ticLayout (c .before .before .before .before .args .tic .now) ≡ Lines.OutOfForm = cc in
@@ -58,32 +54,27 @@ within c = let w = whole c .counted .long in omega arith
 after0 : (c : tie.After-known-told) {r : TicReading} → Picks (drop 1 (readRows (tic0 c) (n0 c))) (Values (valuesOf (tic0 c) (n0 c))) r → r ≡ readTic (tic0 c)
 after0 c p = read-from (tic0 c) (n0 c) (framed0 c) p
 
--- src/reading.rt:27:9
 header-of-requires : tie.Need-header-of-requires
 header-of-requires c κs = let w = within c in omega arith
 
 header-long : (c : tie.After-header-of) → length (c .header-of .result .now) ≡ 196
 header-long c = let w = within (c .before) in ap length (c .header-of .ensures) ∙ header-length ticLayout (tic0 (c .before)) (omega arith)
 
--- src/reading.rt:28:9
 header-sound-requires : tie.Need-header-sound-requires
 header-sound-requires c κs = header-long c
 
 told1 : (c : tie.After-header-sound) → c .header-sound .result ≡ headerSound (ticHeader (tic0 (c .before .before)))
 told1 c = c .header-sound .ensures ∙ ap headerSound (c .before .header-of .ensures)
 
--- src/reading.rt:29:9
 returns-2 : tie.Need-returns-2
 returns-2 c = after0 (c .before .before .before) (here (ap not (sym (told1 (c .before))) ∙ c .if1 .taken))
 
 after1 : (c : tie.Else1) {r : TicReading} → let z = c .before .before .before in Picks (drop 2 (readRows (tic0 z) (n0 z))) (Values (valuesOf (tic0 z) (n0 z))) r → r ≡ readTic (tic0 z)
 after1 c p = after0 (c .before .before .before) (past (ap not (sym (told1 (c .before))) ∙ c .if1 .left) p)
 
--- src/reading.rt:31:9
 head-of-requires : tie.Need-head-of-requires
 head-of-requires c κs = (header-long (c .before .before), sound-digits _ (sym (c .before .header-sound .ensures) ∙ not-false _ (c .if1 .left)))
 
--- src/reading.rt:32:9
 counts-agree-requires : tie.Need-counts-agree-requires
 counts-agree-requires c κs =
     record {
@@ -99,50 +90,42 @@ told2 c = c .counts-agree .ensures ∙ ap (λ (h : List ℕ). countsAgree h (n0 
 head-is : (c : tie.After-head-of) → c .head-of .result ≡ headOf (ticHeader (tic0 (c .before .before .before .before)))
 head-is c = c .head-of .ensures ∙ ap headOf (c .before .before .before .header-of .ensures)
 
--- src/reading.rt:33:9
 returns-3 : tie.Need-returns-3
 returns-3 c = after1 (c .before .before .before) (here (ap not (sym (told2 (c .before))) ∙ c .if2 .taken))
 
 after2 : (c : tie.Else2) {r : TicReading} → let z = c .before .before .before .before .before .before in Picks (drop 3 (readRows (tic0 z) (n0 z))) (Values (valuesOf (tic0 z) (n0 z))) r → r ≡ readTic (tic0 z)
 after2 c p = after1 (c .before .before .before) (past (ap not (sym (told2 (c .before))) ∙ c .if2 .left) p)
 
--- src/reading.rt:35:9
 lines-formed-requires : tie.Need-lines-formed-requires
 lines-formed-requires c κs = within (c .before .before .before .before .before .before)
 
--- src/reading.rt:36:9
 returns-4 : tie.Need-returns-4
 returns-4 c = after2 (c .before .before) (here (ap not (sym (c .before .lines-formed .ensures)) ∙ c .if3 .taken))
 
 after3 : (c : tie.Else3) {r : TicReading} → let z = c .before .before .before .before .before .before .before .before in Picks (drop 4 (readRows (tic0 z) (n0 z))) (Values (valuesOf (tic0 z) (n0 z))) r → r ≡ readTic (tic0 z)
 after3 c p = after2 (c .before .before) (past (ap not (sym (c .before .lines-formed .ensures)) ∙ c .if3 .left) p)
 
--- src/reading.rt:38:9
 footer-of-requires : tie.Need-footer-of-requires
 footer-of-requires c κs = within (c .before .before .before .before .before .before .before .before)
 
 footer-long : (c : tie.After-footer-of) → length (c .footer-of .result .now) ≡ 128
 footer-long c = ap length (c .footer-of .ensures) ∙ footer-length ticLayout (tic0 (c .before .before .before .before .before .before .before .before .before)) (n0 (c .before .before .before .before .before .before .before .before .before)) (within (c .before .before .before .before .before .before .before .before .before))
 
--- src/reading.rt:39:9
 footer-formed-requires : tie.Need-footer-formed-requires
 footer-formed-requires c κs = footer-long c
 
 told4 : (c : tie.After-footer-formed) → let z = c .before .before .before .before .before .before .before .before .before .before in c .footer-formed .result ≡ footerFormed (ticFooter (tic0 z) (n0 z))
 told4 c = c .footer-formed .ensures ∙ ap footerFormed (c .before .footer-of .ensures)
 
--- src/reading.rt:40:9
 returns-5 : tie.Need-returns-5
 returns-5 c = after3 (c .before .before .before) (here (ap not (sym (told4 (c .before))) ∙ c .if4 .taken))
 
 after4 : (c : tie.Else4) {r : TicReading} → let z = c .before .before .before .before .before .before .before .before .before .before .before in Picks (drop 5 (readRows (tic0 z) (n0 z))) (Values (valuesOf (tic0 z) (n0 z))) r → r ≡ readTic (tic0 z)
 after4 c p = after3 (c .before .before .before) (past (ap not (sym (told4 (c .before))) ∙ c .if4 .left) p)
 
--- src/reading.rt:42:9
 sums-of-requires : tie.Need-sums-of-requires
 sums-of-requires c κs = (footer-long (c .before .before), sym (c .before .footer-formed .ensures) ∙ not-false _ (c .if4 .left))
 
--- src/reading.rt:43:30
 listed-sum-requires : tie.Need-listed-sum-requires
 listed-sum-requires c κs =
     record {
@@ -151,7 +134,6 @@ listed-sum-requires c κs =
       few = whole (c .before .before .before .before .before .before .before .before .before .before .before .before) .counted .few;
     }
 
--- src/reading.rt:43:9
 sums-fit-requires : tie.Need-sums-fit-requires
 sums-fit-requires c κs = search needs
 
@@ -166,11 +148,9 @@ told5 c =
     ∙ ap (λ (s : TicSums). sumsFit (c .before .before .before .before .before .before .before .before .before .before .head-of .result) s (listedSum (tic0 z) (n0 z))) (sums-are (c .before .before))
     ∙ ap (λ (h : TicHead). sumsFit h (sumsOf (ticFooter (tic0 z) (n0 z))) (listedSum (tic0 z) (n0 z))) (head-is (c .before .before .before .before .before .before .before .before .before .before))
 
--- src/reading.rt:44:9
 returns-6 : tie.Need-returns-6
 returns-6 c = after4 (c .before .before .before .before) (here (ap not (sym (told5 (c .before))) ∙ c .if5 .taken))
 
--- src/reading.rt:21:1
 returns-7 : tie.Need-returns-7
 returns-7 c = rw (head-is (c .before .before .before .before .before .before .before .before .before .before .before), sums-are (c .before .before .before)) (after4 (c .before .before .before .before) (past (ap not (sym (told5 (c .before))) ∙ c .if5 .left) none))
 

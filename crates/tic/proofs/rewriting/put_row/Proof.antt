@@ -6,15 +6,12 @@ use Rattle.tic.specs.TextLaws.{part-length}
 use Rattle.tic.proofs.rewriting.put_row.Statement.{statement}
 use Rattle.tic.proofs.rewriting.put_row.Tie as tie
 
--- src/rewriting.rt:39:25
 field-requires : tie.Need-field-requires
 field-requires c κs = search needs
 
--- src/rewriting.rt:39:44
 field-requires-2 : tie.Need-field-requires-2
 field-requires-2 c κs = search needs
 
--- src/rewriting.rt:39:5
 put-listed-requires : tie.Need-put-listed-requires
 put-listed-requires c κs =
     let s = c .before .before .before .before .before in
@@ -24,11 +21,9 @@ put-listed-requires c κs =
       room = s .pre .room;
     }
 
--- src/rewriting.rt:35:1
 same-length : tie.Need-same-length
 same-length c = search needs
 
--- src/rewriting.rt:35:1
 returns : tie.Need-returns
 returns c = rw (c .before .before .before .before .field .ensures, c .before .before .before .field2 .ensures) at (c .before .before .put-listed .ensures)
 

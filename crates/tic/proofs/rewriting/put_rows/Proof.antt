@@ -21,17 +21,14 @@ Inv-loop out₀ from tic n at₀ k₀ out at k = Put (joinBelow k (listedAt (tic
 abbrev μ-loop : tie.MeasureT-loop
 μ-loop out₀ from tic n at₀ k₀ out at k = n - k
 
--- src/rewriting.rt:49:5
 loop-holds : tie.Need-loop-holds Inv-loop μ-loop
 loop-holds c = (rw join-zero (put-none _ _), search needs, refl)
 
--- src/rewriting.rt:50:31
 line-of-requires : tie.Need-line-of-requires Inv-loop μ-loop
 line-of-requires c κs =
     let s = c .before .before .before .before .before in
     omega (arith, s .pre .within, line-ends ticLayout (s .args .n) (c .before .before .loop .k) (omega arith))
 
--- src/rewriting.rt:50:9
 put-row-requires : tie.Need-put-row-requires Inv-loop μ-loop
 put-row-requires c κs =
     let s = c .before .before .before .before .before .before in
@@ -41,15 +38,12 @@ put-row-requires c κs =
       room = omega (arith, l .loop .inv .0 .place, l .loop .inv .2, s .pre .room, rows-length (s .args .tic .now) (s .args .n) (s .pre .within) (l .loop .k) (omega arith));
     }
 
--- src/rewriting.rt:51:9
 add-k : tie.Need-add-k Inv-loop μ-loop
 add-k c = search needs
 
--- src/rewriting.rt:49:5
 loop-less : tie.Need-loop-less Inv-loop μ-loop
 loop-less c = search needs
 
--- src/rewriting.rt:49:5
 loop-again : tie.Need-loop-again Inv-loop μ-loop
 unfolding listedAt lineRead codeRead
 loop-again c =
@@ -64,11 +58,9 @@ loop-again c =
       search needs,
     )
 
--- src/rewriting.rt:43:1
 same-length : tie.Need-same-length Inv-loop μ-loop
 same-length c = search needs
 
--- src/rewriting.rt:43:1
 returns : tie.Need-returns Inv-loop μ-loop
 returns c =
     let l = c .before in

@@ -14,22 +14,18 @@ use Rattle.tic.proofs.rewriting.put_tic.Tie as tie
 known : (s : tie.Start) → Again (s .args .tic .now) (s .args .values)
 known s = again (s .args .tic .now) (s .args .values) (s .pre .reads)
 
--- src/rewriting.rt:61:9
 header-of-requires : tie.Need-header-of-requires
 header-of-requires c κs = omega (arith, known (c .before .before) .long)
 
 header-long : (c : tie.After-header-of) → length (c .header-of .result .now) ≡ 196
 header-long c = ap length (c .header-of .ensures) ∙ known (c .before .before .before) .headerLong
 
--- src/rewriting.rt:62:9
 field-requires : tie.Need-field-requires
 field-requires c κs = record { first = omega arith; order = omega arith; last = omega (arith, header-long c) }
 
--- src/rewriting.rt:63:9
 field-requires-2 : tie.Need-field-requires-2
 field-requires-2 c κs = record { first = omega arith; order = omega arith; last = omega (arith, header-long (c .before)) }
 
--- src/rewriting.rt:64:9
 field-requires-3 : tie.Need-field-requires-3
 field-requires-3 c κs = record { first = omega arith; order = omega arith; last = omega (arith, header-long (c .before .before)) }
 
@@ -48,7 +44,6 @@ text-long c =
     c .put-header .ensures .place
     ∙ omega (arith, header-length (c .before .before .before .before .before .before .field .result .now) (c .before .before .before .before .before .field2 .result .now) (c .before .before .before .before .field3 .result .now) (c .before .before .before .before .before .before .before .before .before .before .args .values .head) (receiver-long (c .before .before .before .before .before .before)) (stem-long (c .before .before .before .before .before)) (moment-long (c .before .before .before .before)))
 
--- src/rewriting.rt:67:9
 put-header-requires : tie.Need-put-header-requires
 put-header-requires c κs =
     record {
@@ -58,22 +53,18 @@ put-header-requires c κs =
       room = omega (arith, c .before .before .before .before .before .before .before .before .before .pre .room);
     }
 
--- src/rewriting.rt:68:9
 put-rows-requires : tie.Need-put-rows-requires
 put-rows-requires c κs =
     record { within = omega (arith, known (c .before .before .before .before .before .before .before .before .before .before .before .before .before) .long); room = omega (arith, text-long (c .before .before .before), c .before .before .before .before .before .before .before .before .before .before .before .before .before .pre .room) }
 
--- src/rewriting.rt:69:5
 put-footer-requires : tie.Need-put-footer-requires
 put-footer-requires c κs =
     let s = c .before .before .before .before .before .before .before .before .before .before .before .before .before .before .before .before .before in
     omega (arith, text-long (c .before .before .before .before .before .before .before), c .before .before .before .put-rows .ensures .place, rows-length (s .args .tic .now) (s .args .values .listed) (omega (arith, known s .long)) (s .args .values .listed) (omega arith), s .pre .room)
 
--- src/rewriting.rt:57:1
 same-length : tie.Need-same-length
 same-length c = search needs
 
--- src/rewriting.rt:57:1
 returns : tie.Need-returns
 returns c =
     let s = c .before .before .before .before .before .before .before .before .before .before .before .before .before .before .before .before .before .before .before .before in

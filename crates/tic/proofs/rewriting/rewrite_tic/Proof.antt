@@ -4,31 +4,24 @@ use Rattle.tic.specs.RewritingLaws.{not-read}
 use Rattle.tic.proofs.rewriting.rewrite_tic.Statement.{statement}
 use Rattle.tic.proofs.rewriting.rewrite_tic.Tie as tie
 
--- src/rewriting.rt:76:11
 read-tic-requires : tie.Need-read-tic-requires
 read-tic-requires c κs = search needs
 
--- src/rewriting.rt:77:32
 enum-known-fault : tie.Need-enum-known-fault
 enum-known-fault c = search needs
 
--- src/rewriting.rt:78:28
 enum-known-values : tie.Need-enum-known-values
 enum-known-values c = search needs
 
--- src/rewriting.rt:78:39
 write-again-requires : tie.Need-write-again-requires
 write-again-requires c κs = sym (c .before .before .before .before .read-tic .ensures) ∙ c .before .before .values .given .1
 
--- src/rewriting.rt:73:1
 returns : tie.Need-returns
 returns c = not-read _ _ _ (sym (c .before .before .before .read-tic .ensures) ∙ c .before .fault .given .1)
 
--- src/rewriting.rt:73:1
 same-length : tie.Need-same-length
 same-length c = search needs
 
--- src/rewriting.rt:73:1
 returns-2 : tie.Need-returns-2
 returns-2 c = c .before .before .write-again .ensures
 

@@ -4,21 +4,17 @@ use Rattle.tic.specs.RewritingLaws.{again, too-short, written}
 use Rattle.tic.proofs.rewriting.write_again.Statement.{statement}
 use Rattle.tic.proofs.rewriting.write_again.Tie as tie
 
--- src/rewriting.rt:87:9
 returns : tie.Need-returns
 returns c = too-short _ _ _ (c .before .before .before .pre) (c .if1 .taken)
 
--- src/rewriting.rt:89:24
 put-tic-requires : tie.Need-put-tic-requires
 put-tic-requires c κs =
     let s = c .before .before .before .before in
     record { reads = s .pre; room = omega (arith, again _ _ (s .pre) .long, c .before .if1 .left) }
 
--- src/rewriting.rt:82:1
 same-length : tie.Need-same-length
 same-length c = search needs
 
--- src/rewriting.rt:82:1
 returns-2 : tie.Need-returns-2
 returns-2 c =
     let s = c .before .before .before .before .before .before .before in

@@ -7,31 +7,25 @@ use Rattle.tic.specs.TextLaws.{number-width}
 use Rattle.tic.proofs.text.put_footer.Statement.{statement}
 use Rattle.tic.proofs.text.put_footer.Tie as tie
 
--- src/text.rt:41:9
 put-run-requires : tie.Need-put-run-requires
 put-run-requires c κs = search needs
 
--- src/text.rt:42:9
 put-numbers-requires : tie.Need-put-numbers-requires
 put-numbers-requires c κs = search needs
 
--- src/text.rt:43:9
 put-run-requires-2 : tie.Need-put-run-requires-2
 put-run-requires-2 c κs =
     let a = c .before .before .before .before .before .before .before .before .before .before .before .before .args in
     omega (arith, joined-length (numberPieces (a .sums .accepted .0) (a .sums .rejected .0)), number-width (a .sums .accepted .0) (a .sums .rejected .0))
 
--- src/text.rt:44:5
 put-run-requires-3 : tie.Need-put-run-requires-3
 put-run-requires-3 c κs =
     let a = c .before .before .before .before .before .before .before .before .before .before .before .before .before .before .before .before .args in
     omega (arith, joined-length (numberPieces (a .sums .accepted .0) (a .sums .rejected .0)), number-width (a .sums .accepted .0) (a .sums .rejected .0))
 
--- src/text.rt:35:1
 same-length : tie.Need-same-length
 same-length c = search needs
 
--- src/text.rt:35:1
 returns : tie.Need-returns
 unfolding footerText zeros
 returns c =

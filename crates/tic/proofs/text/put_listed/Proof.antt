@@ -10,37 +10,30 @@ use Rattle.tic.specs.TextLaws.{part-length}
 use Rattle.tic.proofs.text.put_listed.Statement.{statement}
 use Rattle.tic.proofs.text.put_listed.Tie as tie
 
--- src/text.rt:28:9
 put-run-requires : tie.Need-put-run-requires
 put-run-requires c κs = search needs
 
--- src/text.rt:29:35
 field-requires : tie.Need-field-requires
 field-requires c κs = search needs
 
--- src/text.rt:29:9
 put-bytes-requires : tie.Need-put-bytes-requires
 put-bytes-requires c κs =
     let s = c .before .before .before .before .before .before .before .before .before in
     omega (arith, ap length (c .field .ensures), part-length 1 808 (s .args .line .now) (omega (arith, s .pre .lineLong)))
 
--- src/text.rt:30:9
 put-bytes-requires-2 : tie.Need-put-bytes-requires-2
 put-bytes-requires-2 c κs =
     let s = c .before .before .before .before .before .before .before .before .before .before .before .before .before in
     omega (arith, ap length (c .before .before .before .before .field .ensures), part-length 1 808 (s .args .line .now) (omega (arith, s .pre .lineLong)))
 
--- src/text.rt:31:5
 put-run-requires-2 : tie.Need-put-run-requires-2
 put-run-requires-2 c κs =
     let s = c .before .before .before .before .before .before .before .before .before .before .before .before .before .before .before .before .before in
     omega (arith, ap length (c .before .before .before .before .before .before .before .before .field .ensures), part-length 1 808 (s .args .line .now) (omega (arith, s .pre .lineLong)))
 
--- src/text.rt:24:1
 same-length : tie.Need-same-length
 same-length c = search needs
 
--- src/text.rt:24:1
 returns : tie.Need-returns
 unfolding listedText
 returns c =

@@ -7,19 +7,15 @@ use Rattle.tic.specs.Text.{fifteen}
 use Rattle.tic.proofs.text.put_numbers.Statement.{statement}
 use Rattle.tic.proofs.text.put_numbers.Tie as tie
 
--- src/text.rt:19:9
 put-digits-requires : tie.Need-put-digits-requires
 put-digits-requires c κs = search needs
 
--- src/text.rt:20:5
 put-digits-requires-2 : tie.Need-put-digits-requires-2
 put-digits-requires-2 c κs = omega (arith, digits-length 15 (c .before .before .before .before .before .before .args .first))
 
--- src/text.rt:15:1
 same-length : tie.Need-same-length
 same-length c = search needs
 
--- src/text.rt:15:1
 returns : tie.Need-returns
 returns c =
     let a = c .before .before .before .before .before .before .before .before .before .args in

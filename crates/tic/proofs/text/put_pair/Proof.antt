@@ -5,19 +5,15 @@ use Rattle.tic.specs.PieceLaws.{put-first, put-piece}
 use Rattle.tic.proofs.text.put_pair.Statement.{statement}
 use Rattle.tic.proofs.text.put_pair.Tie as tie
 
--- src/text.rt:20:9
 put-bytes-requires : tie.Need-put-bytes-requires
 put-bytes-requires c κs = search needs
 
--- src/text.rt:21:5
 put-bytes-requires-2 : tie.Need-put-bytes-requires-2
 put-bytes-requires-2 c κs = search needs
 
--- src/text.rt:16:1
 same-length : tie.Need-same-length
 same-length c = search needs
 
--- src/text.rt:16:1
 returns : tie.Need-returns
 returns c =
     let a = c .before .before .before .before .before .before .before .before .before .before .before .args in
