@@ -68,7 +68,7 @@ fn judge_all(
     judge_parts(name, book, debits, m, mine, tif, n, words);
 }
 
-// What is lent to be kept is written here and nowhere else, once nothing can be refused any more.
+// Writes the marks and the TIC of a judged file, once nothing can be refused any more.
 fn commit(
     name: &[u8],
     received: &[u8],
