@@ -11,7 +11,8 @@ use Rattle.lines.specs.BoolLaws.{or-none-right}
 use Rattle.lines.specs.Splice.{splice}
 use Rattle.lines.specs.SpliceLaws.{splice-zero}
 use Rattle.tic.specs.Text.{ticText}
-use Rattle.judge.specs.Call.{Call, checkOf, wordsJudged, marksJudged, summaryOf, ticOfCall, tooSmall, answerOf, marksOf, outOf, wordsTried, WordsJudged}
+use Rattle.judge.specs.Call.{Call, checkOf, wordsJudged, marksJudged, summaryOf, ticOfCall, tooSmall, answerOf, marksOf, outOf}
+use Rattle.judge.specs.Core.{wordsTried, CallTried}
 use Rattle.judge.specs.Records.{LineKnown}
 use Rattle.judge.specs.declared.answer.Answer.{Answer}
 use Rattle.judge.specs.declared.answer.Answer.the-variants.{Refused, Answered}
@@ -20,7 +21,7 @@ use Rattle.judge.specs.declared.answer.CallFault.{CallFault}
 use Rattle.judge.specs.declared.answer.Summary.{Summary}
 
 -- a call that E1 to E6 refuse
-pub refused-call : (c : Call) (f : CallFault) → checkOf c ≡ CallCheck.Faulty f → (words : List ℕ) → WordsJudged c words (Refused f) (c .marks) words (c .out)
+pub refused-call : (c : Call) (f : CallFault) → checkOf c ≡ CallCheck.Faulty f → (words : List ℕ) → CallTried c words (Refused f) (c .marks) words (c .out)
 unfolding answerOf marksOf outOf wordsTried
 refused-call c f e words =
     record {
@@ -39,7 +40,7 @@ module _ (c : Call) (sound : checkOf c ≡ CallCheck.Sound) (s : Summary) (told 
   words-then = tried ∙ rw sound
 
   -- without room it is refused, and nothing to be kept is changed
-  pub no-room : tooSmall s (c .room) (length (c .out)) ≡ true → WordsJudged c words (Refused CallFault.Room) (c .marks) words′ (c .out)
+  pub no-room : tooSmall s (c .room) (length (c .out)) ≡ true → CallTried c words (Refused CallFault.Room) (c .marks) words′ (c .out)
   unfolding answerOf marksOf outOf
   no-room small =
       let t : tooSmall (summaryOf c) (c .room) (length (c .out)) ≡ true = ap (λ (x : Summary). tooSmall x (c .room) (length (c .out))) (sym told) ∙ small in
@@ -54,7 +55,7 @@ module _ (c : Call) (sound : checkOf c ≡ CallCheck.Sound) (s : Summary) (told 
 
   -- with room it is answered
   pub answered : tooSmall s (c .room) (length (c .out)) ≡ false → (marks′ out′ : List ℕ) → marks′ ≡ marksJudged c → out′ ≡ splice (c .out) 0 (ticText (ticOfCall c))
-      → ((k : ℕ) → k < s .lines → LineKnown (c .tif) words′ k) → WordsJudged c words (Answered s) marks′ words′ out′
+      → ((k : ℕ) → k < s .lines → LineKnown (c .tif) words′ k) → CallTried c words (Answered s) marks′ words′ out′
   unfolding answerOf marksOf outOf
   answered small marks′ out′ em eo known =
       let t : tooSmall (summaryOf c) (c .room) (length (c .out)) ≡ false = ap (λ (x : Summary). tooSmall x (c .room) (length (c .out))) (sym told) ∙ small in

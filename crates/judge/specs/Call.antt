@@ -181,22 +181,18 @@ linesToRecord (Answered s) = s .lines
 unfoldable pub recordsOf : Call → List Record → List Record
 recordsOf c records = recordsTo (c .tif) (wordsJudged c) (linesToRecord (answerOf c)) ++ drop (linesToRecord (answerOf c)) records
 
--- the words that were tried: those of a call that is sound so far
-abbrev pub wordsFor : CallCheck → List ℕ → List ℕ
-wordsFor (CallCheck.Faulty fault) words = []
-wordsFor CallCheck.Sound words = words
+-- the words that are kept: those of the lines judged, where the call is answered
+unfoldable pub wordsKept : Call → List ℕ
+wordsKept c = cond (isAnswered (answerOf c)) (wordsJudged c) []
 
-unfoldable pub wordsTried : Call → List ℕ
-wordsTried c = wordsFor (checkOf c) (wordsJudged c)
-
--- what the covered core ensures: the words that were tried stand in front of those lent
+-- what the call over words ensures: the words that are kept stand in front of those lent
 pub record WordsJudged (c : Call) (words : List ℕ) (r : Answer) (marks′ words′ out′ : List ℕ) : Type 0 where
   pub answer : r ≡ answerOf c
   pub marksThen : marks′ ≡ marksOf c
   pub outThen : out′ ≡ outOf c
-  pub wordsThen : words′ ≡ splice words 0 (wordsTried c)
-  -- what the records rest on
-  pub roomFor : linesToRecord r ≤ c .room
+  pub wordsThen : words′ ≡ splice words 0 (wordsKept c)
+  pub long : length words′ ≡ length words
+  -- what a record of a line rests on
   pub known : (k : ℕ) → k < linesToRecord r → LineKnown (c .tif) words′ k
 
 -- what the public call ensures

@@ -2,7 +2,7 @@
 use mathlib.Core.Path.{_≡_}
 use mathlib.Core.Bool.{cond}
 use mathlib.Core.List.{List, []}
-use Prim.Native.Nat.{ℕ, _*_, _≤_}
+use Prim.Native.Nat.{ℕ, _*_, _≤_, _<_}
 use lib.ListN.{length, take}
 use Rattle.lines.specs.Rows.{mostLines}
 use Rattle.lines.specs.Splice.{splice}
@@ -13,9 +13,10 @@ use Rattle.judging.specs.Steps.{Given}
 use Rattle.tif.specs.declared.acceptance.Acceptance.{Acceptance}
 use Rattle.tif.specs.declared.acceptance.Whole.{Whole}
 use Rattle.tic.specs.Text.{ticText}
-use Rattle.judge.specs.Call.{Call, checkOf, fileOf, headOf, sumsOf, tooSmall, answerSound}
+use Rattle.judge.specs.Call.{Call, checkOf, fileOf, wordsJudged, headOf, sumsOf, tooSmall, answerSound, answerOf, marksOf, outOf, linesToRecord}
 use Rattle.judge.specs.Card.{verdictsInUse}
 use Rattle.judge.specs.Listing.{ticOf, TicRoom}
+use Rattle.judge.specs.Records.{LineKnown}
 use Rattle.judge.specs.declared.answer.CallCheck.{CallCheck}
 use Rattle.judge.specs.declared.answer.Answer.{Answer}
 use Rattle.judge.specs.declared.answer.Summary.{Summary}
@@ -63,3 +64,22 @@ pub record Widths (name received card : List ℕ) : Type 0 where
 pub record FileRefused (name received card tif : List ℕ) (s : Summary) (room : ℕ) (out : List ℕ) (r : Answer) (out′ : List ℕ) : Type 0 where
   pub answer : r ≡ answerSound s room (length out)
   pub outThen : out′ ≡ cond (tooSmall s room (length out)) out (splice out 0 (ticText (ticOf name received card tif [] (headOf s) (sumsOf s))))
+
+-- ---- the call on words that are lent to it to work on
+-- the words that were tried: those of a call that is sound so far
+abbrev pub wordsFor : CallCheck → List ℕ → List ℕ
+wordsFor (CallCheck.Faulty fault) words = []
+wordsFor CallCheck.Sound words = words
+
+unfoldable pub wordsTried : Call → List ℕ
+wordsTried c = wordsFor (checkOf c) (wordsJudged c)
+
+-- what a call gives that works on words lent to it: those that were tried stand in front
+pub record CallTried (c : Call) (words : List ℕ) (r : Answer) (marks′ words′ out′ : List ℕ) : Type 0 where
+  pub answer : r ≡ answerOf c
+  pub marksThen : marks′ ≡ marksOf c
+  pub outThen : out′ ≡ outOf c
+  pub wordsThen : words′ ≡ splice words 0 (wordsTried c)
+  -- what the records rest on
+  pub roomFor : linesToRecord r ≤ c .room
+  pub known : (k : ℕ) → k < linesToRecord r → LineKnown (c .tif) words′ k

@@ -67,6 +67,9 @@ unfolding isCard
 card-long card e = eqb-true (length card) 16 (and-left (eqb (length card) 16) (allOf DigitOrCapital card) e)
 
 pub record CallSound (c : Call) : Type 0 where
+  pub nameForm : isName (c .name) ≡ true
+  pub momentReal : isMoment (c .received) ≡ true
+  pub cardForm : isCard (c .card) ≡ true
   pub named : length (c .name) ≡ 35
   pub dated : length (c .received) ≡ 14
   pub carded : length (c .card) ≡ 16
@@ -84,10 +87,16 @@ check-shows c e =
     let f = cleared (not (namesWhole (c .names))) CallFault.ReceivedNames [] (firstOf u CallCheck.Sound) (d .1) in
     let g = cleared (not (bookSound width (c .book))) CallFault.Book (drop 1 u) CallCheck.Sound (last-row (firstOf u CallCheck.Sound) (f .1)) in
     let h = cleared (not (debitsSound (c .debits) (c .marks))) CallFault.OpenDebits [] CallCheck.Sound (g .1) in
+    let n = not-false (isName (c .name)) (a .0) in
+    let m = not-false (isMoment (c .received)) (b .0) in
+    let k = not-false (isCard (c .card)) (d .0) in
     record {
-      named = name-shows (c .name) (not-false (isName (c .name)) (a .0)) .long;
-      dated = moment-long (c .received) (not-false (isMoment (c .received)) (b .0));
-      carded = card-long (c .card) (not-false (isCard (c .card)) (d .0));
+      nameForm = n;
+      momentReal = m;
+      cardForm = k;
+      named = name-shows (c .name) n .long;
+      dated = moment-long (c .received) m;
+      carded = card-long (c .card) k;
       booked = not-false (bookSound width (c .book)) (g .0);
       owed = sound-is (c .debits) (c .marks) (not-false (debitsSound (c .debits) (c .marks)) (h .0));
     }

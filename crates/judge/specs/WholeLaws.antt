@@ -18,8 +18,8 @@ use Rattle.debits.specs.Credits.{marksAfter}
 use Rattle.tif.specs.declared.acceptance.Acceptance.{Acceptance}
 use Rattle.judging.specs.Judging.{wordsOf}
 use Rattle.judging.specs.Sums.{countOf, totalOf}
-use Rattle.judge.specs.Call.{Call, checkOf, fileOf, linesOf, linesToJudge, totalTold, fileAnswer, wordsJudged, marksJudged, refusedFile, summaryOf, headOf, sumsOf, ticOfCall, tooSmall, WordsJudged}
-use Rattle.judge.specs.Core.{Widths, FileRefused}
+use Rattle.judge.specs.Call.{Call, checkOf, fileOf, linesOf, linesToJudge, totalTold, fileAnswer, wordsJudged, marksJudged, refusedFile, summaryOf, headOf, sumsOf, ticOfCall, tooSmall}
+use Rattle.judge.specs.Core.{Widths, FileRefused, CallTried}
 use Rattle.judge.specs.Listing.{ticOf, refusedBefore, TicRoom}
 use Rattle.judge.specs.AnswerLaws.{no-room, answered}
 use Rattle.judge.specs.SoundLaws.{check-shows}
@@ -91,10 +91,10 @@ module _ (c : Call) (sound : checkOf c ≡ CallCheck.Sound) (a : FileAnswer) (n 
       ap (λ (l : List ℕ). ticOf (c .name) (c .received) (c .card) (c .tif) l (headOf (refusedFile a (c .tif))) (sumsOf (refusedFile a (c .tif)))) (sym no-words)
       ∙ ap (λ (x : Summary). ticOf (c .name) (c .received) (c .card) (c .tif) (wordsJudged c) (headOf x) (sumsOf x)) told-none
 
-  pub file-refused : (r : Answer) (words out′ : List ℕ) → FileRefused (c .name) (c .received) (c .card) (c .tif) (refusedFile a (c .tif)) (c .room) (c .out) r out′ → WordsJudged c words r (c .marks) words out′
+  pub file-refused : (r : Answer) (words out′ : List ℕ) → FileRefused (c .name) (c .received) (c .card) (c .tif) (refusedFile a (c .tif)) (c .room) (c .out) r out′ → CallTried c words r (c .marks) words out′
   file-refused r words out′ f = go (tooSmall (refusedFile a (c .tif)) (c .room) (length (c .out))) refl
     where
-      go : (b : Bool) → tooSmall (refusedFile a (c .tif)) (c .room) (length (c .out)) ≡ b → WordsJudged c words r (c .marks) words out′
+      go : (b : Bool) → tooSmall (refusedFile a (c .tif)) (c .room) (length (c .out)) ≡ b → CallTried c words r (c .marks) words out′
       go true t =
           let er : r ≡ Refused CallFault.Room = f .answer ∙ rw t in
           let eo : out′ ≡ c .out = f .outThen ∙ rw t in

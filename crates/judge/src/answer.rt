@@ -1,5 +1,7 @@
 use lines::Gross;
 use tif::Side;
+ghost use mathlib.Core.Path.{_≡_};
+ghost use Rattle.judge.specs.Answer.{answerCode, faultNumber};
 
 // What is wrong with a call: E1 to E7.
 pub enum CallFault {
@@ -44,4 +46,33 @@ pub struct Summary {
 pub enum Answer {
     Refused(CallFault),
     Answered(Summary),
+}
+
+// E1 to E7 by their number.
+pub fn fault_number(fault: CallFault) -> u64
+    ensures { λ r. ⌜ r ≡ faultNumber fault ⌝ }
+{
+    match fault {
+        CallFault::FileName => 1,
+        CallFault::ReceptionMoment => 2,
+        CallFault::CodeCard => 3,
+        CallFault::ReceivedNames => 4,
+        CallFault::Book => 5,
+        CallFault::OpenDebits => 6,
+        CallFault::Room => 7,
+    }
+}
+
+// 00 to 05 by their number.
+pub fn answer_code(answer: FileAnswer) -> u64
+    ensures { λ r. ⌜ r ≡ answerCode answer ⌝ }
+{
+    match answer {
+        FileAnswer::Accepted => 0,
+        FileAnswer::PartlyAccepted => 1,
+        FileAnswer::AlreadyReceived => 2,
+        FileAnswer::CountsDiffer => 3,
+        FileAnswer::TotalDiffers => 4,
+        FileAnswer::OutOfForm => 5,
+    }
 }

@@ -1,6 +1,6 @@
 use crate::answer::Answer;
-use crate::core::judge_words;
 use crate::core::lines_to_record;
+use crate::core::try_call;
 use crate::records::fill;
 use verdicts::Record;
 ghost use lib.ListN.{length};
@@ -23,7 +23,7 @@ pub fn judge(
 {
     let mut words = [0u64; 9999];
     let room = records.len();
-    let answer = judge_words(
+    let answer = try_call(
         name,
         received,
         card,

@@ -21,8 +21,8 @@ use tif::side_of;
 ghost use mathlib.Core.Path.{_≡_};
 ghost use Prim.Native.Nat.{_≤_};
 ghost use lib.ListN.{length, take};
-ghost use Rattle.judge.specs.Call.{callOf, linesToRecord, refusedFile, WordsJudged};
-ghost use Rattle.judge.specs.Core.{LinesReady, Filled, Committable, Committed, SoundReady, FileReady, Widths, FileRefused};
+ghost use Rattle.judge.specs.Call.{callOf, linesToRecord, refusedFile};
+ghost use Rattle.judge.specs.Core.{LinesReady, Filled, Committable, Committed, SoundReady, FileReady, Widths, FileRefused, CallTried};
 
 // Judges the first n lines into the front of words, on marks that are a copy.
 fn judge_parts(
@@ -112,7 +112,7 @@ fn judge_file(
     out: &mut [u8],
 ) -> Answer
     requires { ⌜ FileReady (callOf (now name) (now received) (now card) (now names) (now book) (now debits) (now marks) (now tif) room (now out)) whole (now words) ⌝ }
-    ensures { λ r. ⌜ WordsJudged (callOf (now (name .entry)) (now (received .entry)) (now (card .entry)) (now (names .entry)) (now (book .entry)) (now (debits .entry)) (now (marks .entry)) (now (tif .entry)) room (now (out .entry))) (now (words .entry)) r (now (marks .exit)) (now (words .exit)) (now (out .exit)) ⌝ }
+    ensures { λ r. ⌜ CallTried (callOf (now (name .entry)) (now (received .entry)) (now (card .entry)) (now (names .entry)) (now (book .entry)) (now (debits .entry)) (now (marks .entry)) (now (tif .entry)) room (now (out .entry))) (now (words .entry)) r (now (marks .exit)) (now (words .exit)) (now (out .exit)) ⌝ }
 {
     let n = whole.lines;
     let m = marks.len();
@@ -182,7 +182,7 @@ fn judge_sound(
     out: &mut [u8],
 ) -> Answer
     requires { ⌜ SoundReady (callOf (now name) (now received) (now card) (now names) (now book) (now debits) (now marks) (now tif) room (now out)) (now words) ⌝ }
-    ensures { λ r. ⌜ WordsJudged (callOf (now (name .entry)) (now (received .entry)) (now (card .entry)) (now (names .entry)) (now (book .entry)) (now (debits .entry)) (now (marks .entry)) (now (tif .entry)) room (now (out .entry))) (now (words .entry)) r (now (marks .exit)) (now (words .exit)) (now (out .exit)) ⌝ }
+    ensures { λ r. ⌜ CallTried (callOf (now (name .entry)) (now (received .entry)) (now (card .entry)) (now (names .entry)) (now (book .entry)) (now (debits .entry)) (now (marks .entry)) (now (tif .entry)) room (now (out .entry))) (now (words .entry)) r (now (marks .exit)) (now (words .exit)) (now (out .exit)) ⌝ }
 {
     match acceptance_of(name, names, tif) {
         Acceptance::Judged(whole) => judge_file(
@@ -238,8 +238,8 @@ fn judge_sound(
     }
 }
 
-// The covered core of the call. The words of the lines judged stand in front of those lent; they are for the records, and no part of the answer.
-pub fn judge_words(
+// The covered core of the call: it works on the words that are lent, and leaves those of the lines judged in front, also where there is no room.
+pub fn try_call(
     name: &[u8],
     received: &[u8],
     card: &[u8],
@@ -253,7 +253,7 @@ pub fn judge_words(
     out: &mut [u8],
 ) -> Answer
     requires { ⌜ 9999 ≤ length (now words) ⌝ }
-    ensures { λ r. ⌜ WordsJudged (callOf (now (name .entry)) (now (received .entry)) (now (card .entry)) (now (names .entry)) (now (book .entry)) (now (debits .entry)) (now (marks .entry)) (now (tif .entry)) room (now (out .entry))) (now (words .entry)) r (now (marks .exit)) (now (words .exit)) (now (out .exit)) ⌝ }
+    ensures { λ r. ⌜ CallTried (callOf (now (name .entry)) (now (received .entry)) (now (card .entry)) (now (names .entry)) (now (book .entry)) (now (debits .entry)) (now (marks .entry)) (now (tif .entry)) room (now (out .entry))) (now (words .entry)) r (now (marks .exit)) (now (words .exit)) (now (out .exit)) ⌝ }
 {
     match check_call(name, received, card, names, book, debits, marks) {
         CallCheck::Faulty(fault) => Answer::Refused(fault),

@@ -1,5 +1,6 @@
 use crate::answer::FileAnswer;
 use crate::answer::Summary;
+use crate::answer::answer_code;
 use judging::sums_of;
 use lines::Count;
 use lines::Gross;
@@ -67,20 +68,6 @@ pub fn summarize_refused(tif: &[u8], answer: FileAnswer) -> Summary
         accepted_amount: Gross(0),
         refused_amount: Gross(0),
         length: 324,
-    }
-}
-
-// The two digits of an answer.
-fn answer_code(answer: FileAnswer) -> u64
-    ensures { λ r. ⌜ r ≡ answerCode answer ⌝ }
-{
-    match answer {
-        FileAnswer::Accepted => 0,
-        FileAnswer::PartlyAccepted => 1,
-        FileAnswer::AlreadyReceived => 2,
-        FileAnswer::CountsDiffer => 3,
-        FileAnswer::TotalDiffers => 4,
-        FileAnswer::OutOfForm => 5,
     }
 }
 

@@ -10,14 +10,13 @@ use judge::CallFault;
 use judge::FileAnswer;
 use judge::Summary;
 use judge::judge_words;
+use judge::lines_to_record;
 use tif::Side;
 use tif::tif_line;
 use verdicts::Record;
 use verdicts::record_of;
 use verdicts::verdict_of;
-ghost use mathlib.Core.Path.{_≡_};
 ghost use Prim.Native.Nat.{ℕ, _<_};
-ghost use Rattle.judge.specs.Call.{linesToRecord};
 ghost use Rattle.judge.specs.Records.{LineKnown};
 
 // As many lines and debits as a case may bring, with room for some too many.
@@ -135,16 +134,6 @@ fn print_lines_judged(tif: &[u8], words: &[u64], n: usize)
     }
 }
 
-// A call that is refused has no line judged.
-fn lines_judged(answer: Answer) -> usize
-    ensures { λ r. ⌜ r ≡ linesToRecord answer ⌝ }
-{
-    match answer {
-        Answer::Refused(_) => 0,
-        Answer::Answered(s) => s.lines,
-    }
-}
-
 fn print_marks_between(marks: &[u8]) {
     print_stroke();
     print_marks(marks);
@@ -185,7 +174,7 @@ fn run_call(
     );
     print_answer(answer);
     print_marks_between(marks);
-    print_lines_judged(tif, &words, lines_judged(answer));
+    print_lines_judged(tif, &words, lines_to_record(answer));
     print_output(out);
 }
 

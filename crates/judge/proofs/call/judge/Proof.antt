@@ -45,17 +45,18 @@ use denote.Signature.{plain}
 use Rattle.verdicts.specs.declared.record.Record.{Record}
 use Rattle.judge.specs.declared.answer.Answer.{Answer}
 use Rattle.judge.specs.Records.{LineKnown, recordsTo}
-use Rattle.judge.specs.Call.{Call, callOf, linesToRecord, WordsJudged, Judged}
+use Rattle.judge.specs.Call.{Call, callOf, linesToRecord, Judged}
+use Rattle.judge.specs.Core.{CallTried}
 use Rattle.judge.specs.CallLaws.{judged-from-words, room-to-fill}
 use Rattle.verdicts.proofs.record.Record as T
 use Rattle.judge.proofs.answer.Answer as TA
 use Rattle.judge.proofs.answer.Answer.Laws as TA′
 use Rattle.judge.proofs.Big.{big-lit}
 use Rattle.judge.proofs.Local.{Lies, laid, cleared, hidden, lends, back, shows, shown}
-use Rattle.judge.proofs.core.judge_words as core
-use Rattle.judge.proofs.core.judge_words.Symbol as core-def
-use Rattle.judge.proofs.core.judge_words.Symbol.{name as #core}
-use Rattle.judge.proofs.core.judge_words.Met as core-thm
+use Rattle.judge.proofs.core.try_call as core
+use Rattle.judge.proofs.core.try_call.Symbol as core-def
+use Rattle.judge.proofs.core.try_call.Symbol.{name as #core}
+use Rattle.judge.proofs.core.try_call.Met as core-thm
 use Rattle.judge.proofs.core.lines_to_record as lines
 use Rattle.judge.proofs.core.lines_to_record.Symbol as lines-def
 use Rattle.judge.proofs.core.lines_to_record.Symbol.{name as #lines}
@@ -374,7 +375,7 @@ module _ {M : Type 1} (𝓤 : URA M) (H : Heap 𝓤) (A : Atoms 𝓤) (W : Given
             move ! (0 ∷ 1 ∷ 2 ∷ 3 ∷ 4 ∷ 5 ∷ 6 ∷ 7 ∷ 8 ∷ 9 ∷ 10 ∷ 11 ∷ 12 ∷ 13 ∷ 14 ∷ 15 ∷ 17 ∷ 16 ∷ 18 ∷ 19 ∷ []) $
             by ! (exits r w is ms os rs lm lo lr said)
 
-        third-call : (r : Answer) (w : Val) → Is TA.the-row r (w ∷ []) → (ms ws os : List ℕ) (n : ℕ) → n < 2 ^ 64 → length ms ≡ length (x₆ .now) → length ws ≡ 9999 → length os ≡ length (x₉ .now) → WordsJudged call zeros r ms ws os → n ≡ linesToRecord r
+        third-call : (r : Answer) (w : Val) → Is TA.the-row r (w ∷ []) → (ms ws os : List ℕ) (n : ℕ) → n < 2 ^ 64 → length ms ≡ length (x₆ .now) → length ws ≡ 9999 → length os ≡ length (x₉ .now) → CallTried call zeros r ms ws os → n ≡ linesToRecord r
             → Sq W (‵ (flft κ₀ q₀) ∷ ‵ (flft κ₁ q₁) ∷ ‵ (flft κ₂ q₂) ∷ ‵ (flft κ₃ q₃) ∷ ‵ (flft κ₄ q₄) ∷ ‵ (flft κ₅ q₅) ∷ ‵ (flft κ₆ q₆) ∷ ‵ (flft κ₇ q₇) ∷ ‵ (flft κ₈ q₈) ∷ ‵ (flft κ₉ q₉) ∷ ‵ (In κ₀ x₀) ∷ ‵ (In κ₁ x₁) ∷ ‵ (In κ₂ x₂) ∷ ‵ (In κ₃ x₃) ∷ ‵ (In κ₄ x₄) ∷ ‵ (In κ₅ x₅) ∷ ‵ (In κ₇ x₇) ∷ ‵ (finally u8 (x₆ .name) ms) ∷ ‵ (MutSlice (named 8) κ₈ T.the-row .own x₈ (s₈ ∷ [])) ∷ ‵ (finally u8 (x₉ .name) os) ∷ ‵ (Lies u64 9999 ws l₁₁) ∷ ‵ (froom TA′.mir l₀ 0) ∷ ‵ (fat fullShare (shared 0) l₁ 0 s₀) ∷ ‵ (fat fullShare (shared 1) l₂ 0 s₁) ∷ ‵ (fat fullShare (shared 2) l₃ 0 s₂) ∷ ‵ (fat fullShare (shared 3) l₄ 0 s₃) ∷ ‵ (fat fullShare (shared 4) l₅ 0 s₄) ∷ ‵ (fat fullShare (shared 5) l₆ 0 s₅) ∷ ‵ (froom (lent 6) l₇ 0) ∷ ‵ (fat fullShare (shared 7) l₈ 0 s₇) ∷ ‵ (fat fullShare recs l₉ 0 s₈) ∷ ‵ (froom (lent 9) l₁₀ 0) ∷ ‵ (froom word l₁₂ 0) ∷ ‵ (fat fullShare TA′.mir l₁₃ 0 w) ∷ ‵ (fat fullShare word l₁₄ 0 (vint w64 n)) ∷ ‵ (froom byte-ref l₁₅ 0) ∷ ‵ (froom byte-slice l₁₆ 0) ∷ ‵ (froom array-ref l₁₇ 0) ∷ ‵ (froom word-slice l₁₈ 0) ∷ ‵ (froom byte-ref l₁₉ 0) ∷ ‵ (froom byte-slice l₂₀ 0) ∷ ‵ (froom tyUnit l₂₁ 0) ∷ ‵ (froom rec-ref l₂₂ 0) ∷ ‵ (froom rec-slice l₂₃ 0) ∷ ‵ (froom array-shr l₂₄ 0) ∷ ‵ (froom word-shr l₂₅ 0) ∷ ‵ (fdies TA′.mir l₀) ∷ ‵ (fdies (shared 0) l₁) ∷ ‵ (fdies (shared 1) l₂) ∷ ‵ (fdies (shared 2) l₃) ∷ ‵ (fdies (shared 3) l₄) ∷ ‵ (fdies (shared 4) l₅) ∷ ‵ (fdies (shared 5) l₆) ∷ ‵ (fdies (lent 6) l₇) ∷ ‵ (fdies (shared 7) l₈) ∷ ‵ (fdies recs l₉) ∷ ‵ (fdies (lent 9) l₁₀) ∷ ‵ (fdies array l₁₁) ∷ ‵ (fdies word l₁₂) ∷ ‵ (fdies TA′.mir l₁₃) ∷ ‵ (fdies word l₁₄) ∷ ‵ (fdies byte-ref l₁₅) ∷ ‵ (fdies byte-slice l₁₆) ∷ ‵ (fdies array-ref l₁₇) ∷ ‵ (fdies word-slice l₁₈) ∷ ‵ (fdies byte-ref l₁₉) ∷ ‵ (fdies byte-slice l₂₀) ∷ ‵ (fdies tyUnit l₂₁) ∷ ‵ (fdies rec-ref l₂₂) ∷ ‵ (fdies rec-slice l₂₃) ∷ ‵ (fdies array-shr l₂₄) ∷ ‵ (fdies word-shr l₂₅) ∷ [])
             (runs C Λ En mir-of.t-11 (atRet En Post))
         third-call r w is ms ws os n n-fits lm lw lo e en =
@@ -432,7 +433,7 @@ module _ {M : Type 1} (𝓤 : URA M) (H : Heap 𝓤) (A : Atoms 𝓤) (W : Given
             keep ! (5 ∷ 6 ∷ 7 ∷ 8 ∷ 9 ∷ 10 ∷ 11 ∷ 1 ∷ 2 ∷ 12 ∷ 13 ∷ 14 ∷ 15 ∷ 16 ∷ 17 ∷ 18 ∷ 4 ∷ 19 ∷ 3 ∷ 20 ∷ 0 ∷ 21 ∷ 22 ∷ 23 ∷ 24 ∷ 25 ∷ 26 ∷ 27 ∷ 28 ∷ 29 ∷ 30 ∷ 31 ∷ 32 ∷ 33 ∷ 34 ∷ 35 ∷ 36 ∷ 37 ∷ 38 ∷ 39 ∷ 40 ∷ 41 ∷ 42 ∷ 43 ∷ 44 ∷ 45 ∷ 46 ∷ 47 ∷ 48 ∷ 49 ∷ 50 ∷ 51 ∷ 52 ∷ 53 ∷ 54 ∷ 55 ∷ 56 ∷ 57 ∷ 58 ∷ 59 ∷ 60 ∷ 61 ∷ 62 ∷ 63 ∷ 64 ∷ 65 ∷ 66 ∷ 67 ∷ 68 ∷ 69 ∷ 70 ∷ 71 ∷ []) $
             ends r w is ms ws os (rs .0) lm lo lr (judged-from-words _ _ _ _ _ _ n e en _ _ f)))))))))
 
-        second-call : (r : Answer) (w : Val) → Is TA.the-row r (w ∷ []) → (ms ws os : List ℕ) → length ms ≡ length (x₆ .now) → length ws ≡ 9999 → length os ≡ length (x₉ .now) → WordsJudged call zeros r ms ws os
+        second-call : (r : Answer) (w : Val) → Is TA.the-row r (w ∷ []) → (ms ws os : List ℕ) → length ms ≡ length (x₆ .now) → length ws ≡ 9999 → length os ≡ length (x₉ .now) → CallTried call zeros r ms ws os
             → Sq W (‵ (flft κ₀ q₀) ∷ ‵ (flft κ₁ q₁) ∷ ‵ (flft κ₂ q₂) ∷ ‵ (flft κ₃ q₃) ∷ ‵ (flft κ₄ q₄) ∷ ‵ (flft κ₅ q₅) ∷ ‵ (flft κ₆ q₆) ∷ ‵ (flft κ₇ q₇) ∷ ‵ (flft κ₈ q₈) ∷ ‵ (flft κ₉ q₉) ∷ ‵ (In κ₀ x₀) ∷ ‵ (In κ₁ x₁) ∷ ‵ (In κ₂ x₂) ∷ ‵ (In κ₃ x₃) ∷ ‵ (In κ₄ x₄) ∷ ‵ (In κ₅ x₅) ∷ ‵ (In κ₇ x₇) ∷ ‵ (finally u8 (x₆ .name) ms) ∷ ‵ (MutSlice (named 8) κ₈ T.the-row .own x₈ (s₈ ∷ [])) ∷ ‵ (finally u8 (x₉ .name) os) ∷ ‵ (Lies u64 9999 ws l₁₁) ∷ ‵ (froom TA′.mir l₀ 0) ∷ ‵ (fat fullShare (shared 0) l₁ 0 s₀) ∷ ‵ (fat fullShare (shared 1) l₂ 0 s₁) ∷ ‵ (fat fullShare (shared 2) l₃ 0 s₂) ∷ ‵ (fat fullShare (shared 3) l₄ 0 s₃) ∷ ‵ (fat fullShare (shared 4) l₅ 0 s₄) ∷ ‵ (fat fullShare (shared 5) l₆ 0 s₅) ∷ ‵ (froom (lent 6) l₇ 0) ∷ ‵ (fat fullShare (shared 7) l₈ 0 s₇) ∷ ‵ (fat fullShare recs l₉ 0 s₈) ∷ ‵ (froom (lent 9) l₁₀ 0) ∷ ‵ (froom word l₁₂ 0) ∷ ‵ (fat fullShare TA′.mir l₁₃ 0 w) ∷ ‵ (froom word l₁₄ 0) ∷ ‵ (froom byte-ref l₁₅ 0) ∷ ‵ (froom byte-slice l₁₆ 0) ∷ ‵ (froom array-ref l₁₇ 0) ∷ ‵ (froom word-slice l₁₈ 0) ∷ ‵ (froom byte-ref l₁₉ 0) ∷ ‵ (froom byte-slice l₂₀ 0) ∷ ‵ (froom tyUnit l₂₁ 0) ∷ ‵ (froom rec-ref l₂₂ 0) ∷ ‵ (froom rec-slice l₂₃ 0) ∷ ‵ (froom array-shr l₂₄ 0) ∷ ‵ (froom word-shr l₂₅ 0) ∷ ‵ (fdies TA′.mir l₀) ∷ ‵ (fdies (shared 0) l₁) ∷ ‵ (fdies (shared 1) l₂) ∷ ‵ (fdies (shared 2) l₃) ∷ ‵ (fdies (shared 3) l₄) ∷ ‵ (fdies (shared 4) l₅) ∷ ‵ (fdies (shared 5) l₆) ∷ ‵ (fdies (lent 6) l₇) ∷ ‵ (fdies (shared 7) l₈) ∷ ‵ (fdies recs l₉) ∷ ‵ (fdies (lent 9) l₁₀) ∷ ‵ (fdies array l₁₁) ∷ ‵ (fdies word l₁₂) ∷ ‵ (fdies TA′.mir l₁₃) ∷ ‵ (fdies word l₁₄) ∷ ‵ (fdies byte-ref l₁₅) ∷ ‵ (fdies byte-slice l₁₆) ∷ ‵ (fdies array-ref l₁₇) ∷ ‵ (fdies word-slice l₁₈) ∷ ‵ (fdies byte-ref l₁₉) ∷ ‵ (fdies byte-slice l₂₀) ∷ ‵ (fdies tyUnit l₂₁) ∷ ‵ (fdies rec-ref l₂₂) ∷ ‵ (fdies rec-slice l₂₃) ∷ ‵ (fdies array-shr l₂₄) ∷ ‵ (fdies word-shr l₂₅) ∷ [])
             (runs C Λ En mir-of.t-10 (atRet En Post))
         second-call r w is ms ws os lm lw lo e =
@@ -499,11 +500,11 @@ module _ {M : Type 1} (𝓤 : URA M) (H : Heap 𝓤) (A : Atoms 𝓤) (W : Given
             pick ! (λ r.
             split ! $
             move ! (1 ∷ []) $
-            use1 W (some (λ (zs : Unit {0} × (Unit {0} × (Unit {0} × (Unit {0} × (Unit {0} × (Unit {0} × (List ℕ × (Unit {0} × (Unit {0} × (List ℕ × (List ℕ × Unit {0}))))))))))). ‵ (lasts core.ended (core-lfts ν) (core-args l₁₁ δ z) zs) ⊛ raw (fact 𝓤 (WordsJudged call z r (zs .1 .1 .1 .1 .1 .1 .0) (zs .1 .1 .1 .1 .1 .1 .1 .1 .1 .0) (zs .1 .1 .1 .1 .1 .1 .1 .1 .1 .1 .0))))) (id⊢ 𝓤 _) $
+            use1 W (some (λ (zs : Unit {0} × (Unit {0} × (Unit {0} × (Unit {0} × (Unit {0} × (Unit {0} × (List ℕ × (Unit {0} × (Unit {0} × (List ℕ × (List ℕ × Unit {0}))))))))))). ‵ (lasts core.ended (core-lfts ν) (core-args l₁₁ δ z) zs) ⊛ raw (fact 𝓤 (CallTried call z r (zs .1 .1 .1 .1 .1 .1 .0) (zs .1 .1 .1 .1 .1 .1 .1 .1 .1 .0) (zs .1 .1 .1 .1 .1 .1 .1 .1 .1 .1 .0))))) (id⊢ 𝓤 _) $
             pick ! (λ zs.
             split ! $
             move ! (1 ∷ []) $
-            heard ! (WordsJudged call z r (zs .1 .1 .1 .1 .1 .1 .0) (zs .1 .1 .1 .1 .1 .1 .1 .1 .1 .0) (zs .1 .1 .1 .1 .1 .1 .1 .1 .1 .1 .0)) (λ e.
+            heard ! (CallTried call z r (zs .1 .1 .1 .1 .1 .1 .0) (zs .1 .1 .1 .1 .1 .1 .1 .1 .1 .0) (zs .1 .1 .1 .1 .1 .1 .1 .1 .1 .1 .0)) (λ e.
             fsplit ! $
             drop ! $
             fsplit ! $
@@ -571,7 +572,7 @@ module _ {M : Type 1} (𝓤 : URA M) (H : Heap 𝓤) (A : Atoms 𝓤) (W : Given
             use3 W (later (‵ (Lies u64 9999 (zs .1 .1 .1 .1 .1 .1 .1 .1 .1 .0) l₁₁))) (back 𝓤 H A W u64 9999 l₁₁ (ν ∷ []) δ z (zs .1 .1 .1 .1 .1 .1 .1 .1 .1 .0) (lz-of z ez)) $ await ! tt $
             forget ! 28 refl $ forget ! 31 refl $ forget ! 32 refl $ forget ! 35 refl $ forget ! 36 refl $ forget ! 37 refl $ forget ! 38 refl $ forget ! 39 refl $ forget ! 40 refl $
             keep ! (9 ∷ 8 ∷ 7 ∷ 6 ∷ 5 ∷ 4 ∷ 3 ∷ 2 ∷ 19 ∷ 1 ∷ 18 ∷ 17 ∷ 16 ∷ 15 ∷ 14 ∷ 13 ∷ 12 ∷ 11 ∷ 20 ∷ 10 ∷ 0 ∷ 21 ∷ 22 ∷ 23 ∷ 24 ∷ 25 ∷ 26 ∷ 27 ∷ 28 ∷ 29 ∷ 30 ∷ 31 ∷ 32 ∷ 33 ∷ 34 ∷ 35 ∷ 36 ∷ 37 ∷ 38 ∷ 39 ∷ 40 ∷ 41 ∷ 42 ∷ 43 ∷ 44 ∷ 45 ∷ 46 ∷ 47 ∷ 48 ∷ 49 ∷ 50 ∷ 51 ∷ 52 ∷ 53 ∷ 54 ∷ 55 ∷ 56 ∷ 57 ∷ 58 ∷ 59 ∷ 60 ∷ 61 ∷ 62 ∷ 63 ∷ 64 ∷ 65 ∷ 66 ∷ 67 ∷ 68 ∷ 69 ∷ 70 ∷ 71 ∷ []) $
-            second-call r w is (zs .1 .1 .1 .1 .1 .1 .0) (zs .1 .1 .1 .1 .1 .1 .1 .1 .1 .0) (zs .1 .1 .1 .1 .1 .1 .1 .1 .1 .1 .0) lm (lw ∙ lz-of z ez) lo (subst (λ (v : List ℕ). WordsJudged call v r (zs .1 .1 .1 .1 .1 .1 .0) (zs .1 .1 .1 .1 .1 .1 .1 .1 .1 .0) (zs .1 .1 .1 .1 .1 .1 .1 .1 .1 .1 .0)) ez e)))))))))))
+            second-call r w is (zs .1 .1 .1 .1 .1 .1 .0) (zs .1 .1 .1 .1 .1 .1 .1 .1 .1 .0) (zs .1 .1 .1 .1 .1 .1 .1 .1 .1 .1 .0) lm (lw ∙ lz-of z ez) lo (subst (λ (v : List ℕ). CallTried call v r (zs .1 .1 .1 .1 .1 .1 .0) (zs .1 .1 .1 .1 .1 .1 .1 .1 .1 .0) (zs .1 .1 .1 .1 .1 .1 .1 .1 .1 .1 .0)) ez e)))))))))))
 
       walk : Is (ShrSlice (named 0) κ₀ u8) x₀ (s₀ ∷ []) → Is (ShrSlice (named 1) κ₁ u8) x₁ (s₁ ∷ []) → Is (ShrSlice (named 2) κ₂ u8) x₂ (s₂ ∷ []) → Is (ShrSlice (named 3) κ₃ u8) x₃ (s₃ ∷ []) → Is (ShrSlice (named 4) κ₄ u8) x₄ (s₄ ∷ []) → Is (ShrSlice (named 5) κ₅ u8) x₅ (s₅ ∷ []) → Room u8 (length (x₆ .now)) → Is (ShrSlice (named 7) κ₇ u8) x₇ (s₇ ∷ []) → Room u8 (length (x₉ .now)) → ent 𝓤 (onEntry 𝓤 H A judge.signature (κ₀, (κ₁, (κ₂, (κ₃, (κ₄, (κ₅, (κ₆, (κ₇, (κ₈, (κ₉, tt)))))))))) (q₀, (q₁, (q₂, (q₃, (q₄, (q₅, (q₆, (q₇, (q₈, (q₉, tt)))))))))) a vals) (WpFn 𝓤 H C Λ code.function (s₀ ∷ s₁ ∷ s₂ ∷ s₃ ∷ s₄ ∷ s₅ ∷ s₆ ∷ s₇ ∷ s₈ ∷ s₉ ∷ []) Post)
       walk g₀ g₁ g₂ g₃ g₄ g₅ g₆ g₇ g₉ =
@@ -652,6 +653,6 @@ judge-spec 𝓤 H 𝓜 𝓖 𝓡 =
     entered 𝓤 H (tripleOf 𝓤 H (𝓖 .A) judge.signature (judge.spec 𝓤 H (𝓖 .A) (𝓜 .mem) (𝓡 .run)))
     (tables 𝓤 H 𝓜 𝓡 code.env .C) (tables 𝓤 H 𝓜 𝓡 code.env .Λ) #judge code.function (code.unfolded 𝓤 H 𝓜 𝓡)
     (judge-meets 𝓤 H (𝓖 .A) (givenOf 𝓤 H 𝓜 𝓖) (𝓜 .mem) (𝓡 .run) (tablesOf 𝓤 H 𝓜 (tables 𝓤 H 𝓜 𝓡 code.env))
-    (cited 𝓤 H (Core 𝓤 H (𝓖 .A) (𝓜 .mem) (𝓡 .run)) 𝓜 𝓡 code.env #core core-def.routine code.calls-judge·core·judge-words (core-thm.met 𝓤 H 𝓜 𝓖 𝓡))
+    (cited 𝓤 H (Core 𝓤 H (𝓖 .A) (𝓜 .mem) (𝓡 .run)) 𝓜 𝓡 code.env #core core-def.routine code.calls-judge·core·try-call (core-thm.met 𝓤 H 𝓜 𝓖 𝓡))
     (cited 𝓤 H (Lines 𝓤 H (𝓖 .A) (𝓜 .mem) (𝓡 .run)) 𝓜 𝓡 code.env #lines lines-def.routine code.calls-judge·core·lines-to-record (lines-thm.met 𝓤 H 𝓜 𝓖 𝓡))
     (cited 𝓤 H (Fill 𝓤 H (𝓖 .A) (𝓜 .mem) (𝓡 .run)) 𝓜 𝓡 code.env #fill fill-def.routine code.calls-judge·records·fill (fill-thm.met 𝓤 H 𝓜 𝓖 𝓡)))

@@ -3,8 +3,8 @@ use borrow.Author.Needs.{needs}
 use Rattle.judge.specs.AnswerLaws.{refused-call}
 use Rattle.judge.specs.Call.{Call, callOf, checkOf}
 use Rattle.judge.specs.declared.answer.CallCheck.{CallCheck}
-use Rattle.judge.proofs.core.judge_words.Statement.{statement}
-use Rattle.judge.proofs.core.judge_words.Tie as tie
+use Rattle.judge.proofs.core.try_call.Statement.{statement}
+use Rattle.judge.proofs.core.try_call.Tie as tie
 
 -- the call at the function's entry
 abbrev call : tie.Start → Call
@@ -48,8 +48,8 @@ same-length-4 c = search needs
 returns-2 : tie.Need-returns-2
 returns-2 c = search needs
 
-pub judge-words-spec : {M : Type 1} → statement M
-judge-words-spec =
+pub try-call-spec : {M : Type 1} → statement M
+try-call-spec =
     tie.close
     (tie.spec
     check-call-requires
