@@ -1,5 +1,6 @@
 #!/usr/bin/env python3
-"""Writes the jobs of this folder: worked.job, and in jobs/ a small job NAME.job with its line NAME.out for each answer.
+"""Writes the jobs of this folder: worked.job, and in jobs/ a small job NAME.job with its line NAME.out for each answer;
+and the same jobs, each with its length before it, as what crates/job_vectors is run on and must print.
 
 Change what is below and run it again. Columns are counted from 1, as in docs/COLUMNS.md.
 """
@@ -108,15 +109,22 @@ def small_jobs():
     }
 
 
+def write(place, text):
+    """Writes a file of the repository."""
+    root = os.path.dirname(os.path.dirname(os.path.abspath(__file__)))
+    with open(os.path.join(root, place), "wb") as file:
+        file.write(text)
+
+
 def main():
-    here = os.path.dirname(os.path.abspath(__file__))
-    with open(os.path.join(here, "worked.job"), "wb") as file:
-        file.write(job())
+    jobs = {"worked": (job(), "01 DEB 3 2 1 17850 5300 12550"), **small_jobs()}
+    write("examples/worked.job", job())
     for name, (text, line) in small_jobs().items():
-        with open(os.path.join(here, "jobs", name + ".job"), "wb") as file:
-            file.write(text)
-        with open(os.path.join(here, "jobs", name + ".out"), "w") as file:
-            file.write(line + "\n")
+        write("examples/jobs/" + name + ".job", text)
+        write("examples/jobs/" + name + ".out", line.encode() + b"\n")
+    framed = b"".join(b"J" + struct.pack(">I", len(text)) + text for text, _ in jobs.values())
+    write("crates/job_vectors/stdin", framed)
+    write("crates/job_vectors/stdout", b"".join(line.encode() + b"\n" for _, line in jobs.values()))
 
 
 if __name__ == "__main__":

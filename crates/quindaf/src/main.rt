@@ -1,10 +1,5 @@
 // Reads a job from standard input, judges its call, and prints one line.
-mod call;
-mod job;
-mod line;
-mod number;
-
-use crate::line::answer_job;
+use job::answer_job;
 use libc::STDIN_FILENO;
 use libc::STDOUT_FILENO;
 

@@ -52,7 +52,8 @@ fn put_front(out: &mut [u8], at: usize, receiver: &[u8], stem: &[u8], moment: &[
     put_bytes(out, mid, &NOK)
 }
 
-fn put_side(out: &mut [u8], at: usize, side: Side) -> usize
+// CRE, DEB or "000".
+pub fn put_side(out: &mut [u8], at: usize, side: Side) -> usize
     requires { ⌜ at + 3 ≤ length (now out) ⌝ }
     ensures { λ r. ⌜ Put (sideText side) at (now (out .entry)) r (now (out .exit)) ⌝ }
 {

@@ -15,6 +15,7 @@ mod values;
 
 pub use columns::TIC;
 pub use header_text::put_header;
+pub use header_text::put_side;
 pub use listed::Listed;
 pub use listed::listed_line;
 pub use listed::shown_code;

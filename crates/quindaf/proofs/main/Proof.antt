@@ -2,7 +2,7 @@ use native.Mathlib.Omega.{arith}
 use Prim.Native.Nat.{_-_}
 use lib.ListN.{take}
 use borrow.Author.Needs.{needs}
-use Rattle.quindaf.specs.PrintedLaws.{printed-length}
+use Rattle.job.specs.PrintedLaws.{printed-length}
 use Rattle.quindaf.proofs.main.Statement.{statement}
 use Rattle.quindaf.proofs.main.Tie as tie
 
