@@ -14,7 +14,6 @@ ghost use mathlib.Core.Path.{_≡_};
 ghost use Prim.Native.Nat.{_+_, _≤_};
 ghost use lib.ListN.{length};
 ghost use Rattle.lines.specs.Splice.{Put};
-ghost use Rattle.tif.specs.Side.{sideText};
 ghost use Rattle.job.specs.Printed.{faultText, headText, countsText, amountsText, summaryText, answerText, textOf, printedOf};
 
 // "E" joined to its number.
