@@ -1,15 +1,15 @@
 -- Lease references are never read: two books that differ only in them have the same form, and the same cover for every passage, for every width of a period.
 -- Assumes nothing.
-use mathlib.Core.Path.{_≡_, refl, sym, ap, _∙_}
-use mathlib.Core.Bool.{Bool}
+use mathlib.Core.Path.{_≡_, sym, ap, _∙_}
 use mathlib.Core.List.{List}
 use Prim.Native.Nat.{ℕ, zero, suc, _+_, _-_, _≤_, _<_}
 use native.Mathlib.Nat.{not-suc-le-zero}
 use native.Mathlib.Omega.{arith}
 use lib.ListN.{length, getD, take, drop, length-take, length-drop}
 use lib.Seq.{ext-getD, getD-take, getD-drop}
-use Rattle.lines.specs.Below.{allBelow, someBelow, firstBelow}
+use Rattle.lines.specs.Below.{allBelow, firstBelow}
 use Rattle.lines.specs.BelowLaws.{below-suc}
+use Rattle.lines.specs.BelowSame.{all-same, first-same}
 use Rattle.lines.specs.Columns.{cols}
 use Rattle.lines.specs.Number.{bigEndian}
 use Rattle.lines.specs.Rows.{linePlace, lineOf}
@@ -19,24 +19,6 @@ use Rattle.book.specs.Form.{followsAt, periodSoundAt, periodsSound, body
 use Rattle.book.specs.OrderLaws.{either-side}
 use Rattle.book.specs.Cover.{Asked, asking, coversAt, coveringPeriod, hasCover, panIs, agreementOf, coveringAgreement, coverIn, coverOf}
 use Rattle.book.specs.Lease.{OutsideLeases, SameButLeases}
-
--- ---- tests that agree on each number below k
-module _ (p q : ℕ → Bool) where
-  all-same : (k : ℕ) → ((i : ℕ) → i < k → p i ≡ q i) → allBelow k p ≡ allBelow k q
-  unfolding allBelow
-  all-same zero each = refl
-  all-same (suc k) each = rw (all-same k (λ i h. each i (omega arith)), each k (omega arith))
-
-  some-same : (k : ℕ) → ((i : ℕ) → i < k → p i ≡ q i) → someBelow k p ≡ someBelow k q
-  unfolding someBelow
-  some-same zero each = refl
-  some-same (suc k) each = rw (some-same k (λ i h. each i (omega arith)), each k (omega arith))
-
-  first-same : (k : ℕ) → ((i : ℕ) → i < k → p i ≡ q i) → firstBelow k p ≡ firstBelow k q
-  unfolding firstBelow
-  first-same zero each = refl
-  first-same (suc k) each =
-      rw (some-same k (λ i h. each i (omega arith)), first-same k (λ i h. each i (omega arith)), each k (omega arith))
 
 -- ---- parts of two lists that agree there
 part-even : (x y : List ℕ) (at n : ℕ) → length x ≡ length y → length (take n (drop at x)) ≡ length (take n (drop at y))

@@ -15,12 +15,12 @@ use lines::filled_with;
 use lines::is_before;
 use moment::Moment;
 use moment::check_moment;
+use moment::is_real;
 use plate::plate_in_book;
 ghost use mathlib.Core.Path.{_≡_};
 ghost use mathlib.Core.Bool.{true};
 ghost use Prim.Native.Nat.{_+_, _*_, _≤_, _<_};
 ghost use lib.ListN.{length};
-ghost use Rattle.moment.specs.Moment.{isReal};
 ghost use Rattle.book.specs.Layout.{agreements, entryEnd, periodEnd, bodyOf, width};
 ghost use Rattle.book.specs.Form.{endForm, periodForm, inForm, followsAt, periodSoundAt, periodsSound, bodySound, risesAt, entrySoundAt, entriesSound, agreementSound, bodiesSound, headSound, bookForm, Headed};
 
@@ -43,16 +43,6 @@ const MOST_BYTES: usize = 1048576;
 const MOST_AGREEMENTS: usize = 1000;
 
 const MOST_PERIODS: usize = 64;
-
-fn is_real(m: Moment) -> bool
-    ensures { λ r. ⌜ r ≡ isReal m ⌝ }
-{
-    match m {
-        Moment::Real => true,
-        Moment::Wrong(_) => false,
-        Moment::OtherLength => false,
-    }
-}
 
 // The end of a period, which in the last one may be fourteen nines.
 fn end_form(end: &[u8], last: bool) -> Moment

@@ -3,11 +3,11 @@ use mathlib.Core.Path.{_≡_}
 use mathlib.Core.List.{List, [], _∷_}
 use Prim.Native.Nat.{ℕ}
 use Rattle.lines.specs.Splice.{splice}
-use Rattle.judge.specs.Answer.{answerCode}
+use Rattle.answers.specs.Answer.{answerCode}
 use Rattle.judge.specs.Call.{Call, answerOf, marksOf, outOf, wordsKept}
-use Rattle.judge.specs.declared.answer.Answer.{Answer}
-use Rattle.judge.specs.declared.answer.Answer.the-variants.{Refused, Answered}
-use Rattle.judge.specs.declared.answer.Summary.{Summary}
+use Rattle.answers.specs.declared.answer.Answer.{Answer}
+use Rattle.answers.specs.declared.answer.Answer.the-variants.{Refused, Answered}
+use Rattle.answers.specs.declared.answer.Summary.{Summary}
 use Rattle.exports.specs.Numbers.{sideNumber, callNumber}
 
 -- acceptance, side, lines, accepted, refused, total, accepted amount, refused amount, length of the TIC

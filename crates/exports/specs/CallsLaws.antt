@@ -3,10 +3,10 @@ use mathlib.Core.Path.{_≡_, sym, ap, _∙_}
 use mathlib.Core.List.{List}
 use Prim.Native.Nat.{ℕ, _<_}
 use native.Mathlib.Omega.{arith}
-use Rattle.judge.specs.Answer.{faultNumber}
+use Rattle.answers.specs.Answer.{faultNumber}
 use Rattle.judge.specs.Call.{Call, WordsJudged}
-use Rattle.judge.specs.declared.answer.Answer.{Answer}
-use Rattle.judge.specs.declared.answer.CallFault.{CallFault}
+use Rattle.answers.specs.declared.answer.Answer.{Answer}
+use Rattle.answers.specs.declared.answer.CallFault.{CallFault}
 use Rattle.exports.specs.Numbers.{callNumber}
 use Rattle.exports.specs.Calls.{summaryAfter, AnswerTold, CallJudged}
 

@@ -7,10 +7,10 @@ use Rattle.tic.specs.declared.values.TicReading.{TicReading}
 use Rattle.tic.specs.declared.values.TicReading.the-variants.{Unreadable, Values}
 use Rattle.tic.specs.declared.rewriting.Rewritten.{Rewritten}
 use Rattle.tic.specs.declared.rewriting.Rewritten.the-variants.{TooShort, Written}
-use Rattle.judge.specs.Answer as call
-use Rattle.judge.specs.declared.answer.Answer.{Answer}
-use Rattle.judge.specs.declared.answer.Answer.the-variants.{Refused, Answered}
-use Rattle.judge.specs.declared.answer.CallFault.the-variants.{Room}
+use Rattle.answers.specs.Answer as call
+use Rattle.answers.specs.declared.answer.Answer.{Answer}
+use Rattle.answers.specs.declared.answer.Answer.the-variants.{Refused, Answered}
+use Rattle.answers.specs.declared.answer.CallFault.the-variants.{Room}
 
 -- `000`, `CRE`, `DEB`
 abbrev pub sideNumber : Side → ℕ

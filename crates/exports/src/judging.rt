@@ -1,8 +1,8 @@
 use crate::numbers::call_fault_number;
 use crate::numbers::side_number;
-use judge::Answer;
-use judge::Summary;
-use judge::answer_code;
+use answers::Answer;
+use answers::Summary;
+use answers::answer_code;
 use judge::judge_words;
 ghost use mathlib.Core.Path.{_≡_};
 ghost use Rattle.judge.specs.Call.{callOf};

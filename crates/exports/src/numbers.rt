@@ -1,9 +1,9 @@
-use judge::CallFault;
+use answers::CallFault;
 use tic::TicFault;
 use tic::fault_number;
 use tif::Side;
 ghost use mathlib.Core.Path.{_≡_};
-ghost use Rattle.judge.specs.Answer as call;
+ghost use Rattle.answers.specs.Answer as call;
 ghost use Rattle.tic.specs.Reading.{faultNumber};
 ghost use Rattle.exports.specs.Numbers.{sideNumber};
 
@@ -28,5 +28,5 @@ pub fn tic_fault_number(fault: TicFault) -> u32
 pub fn call_fault_number(fault: CallFault) -> u32
     ensures { λ r. ⌜ r ≡ call.faultNumber fault ⌝ }
 {
-    judge::fault_number(fault) as u32
+    answers::fault_number(fault) as u32
 }

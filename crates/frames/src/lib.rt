@@ -9,4 +9,5 @@ pub use input::read_kind;
 pub use input::read_part;
 pub use output::print_bytes;
 pub use output::print_line_feed;
+pub use output::print_marks;
 pub use output::print_number;

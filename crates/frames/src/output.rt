@@ -12,3 +12,12 @@ pub fn print_bytes(s: &[u8]) {
 pub fn print_line_feed() {
     io::write_all(STDOUT_FILENO, b"\n");
 }
+
+// Prints marks, a digit each where they are 0 or 1.
+pub fn print_marks(marks: &[u8]) {
+    let mut j = 0;
+    while j < marks.len() {
+        print_number(marks[j] as u64);
+        j += 1;
+    }
+}

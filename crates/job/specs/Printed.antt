@@ -10,12 +10,12 @@ use Rattle.tif.specs.Body.{grossOf}
 use Rattle.tif.specs.Side.{sideText}
 use Rattle.verdicts.specs.declared.record.Record.{Record}
 use Rattle.verdicts.specs.declared.verdict.Verdict.the-variants.{Credits}
-use Rattle.judge.specs.Answer.{answerCode, faultNumber}
+use Rattle.answers.specs.Answer.{answerCode, faultNumber}
 use Rattle.judge.specs.Call.{Call, callOf, answerOf, marksOf, outOf}
-use Rattle.judge.specs.declared.answer.Answer.{Answer}
-use Rattle.judge.specs.declared.answer.Answer.the-variants.{Refused, Answered}
-use Rattle.judge.specs.declared.answer.CallFault.{CallFault}
-use Rattle.judge.specs.declared.answer.Summary.{Summary}
+use Rattle.answers.specs.declared.answer.Answer.{Answer}
+use Rattle.answers.specs.declared.answer.Answer.the-variants.{Refused, Answered}
+use Rattle.answers.specs.declared.answer.CallFault.{CallFault}
+use Rattle.answers.specs.declared.answer.Summary.{Summary}
 use Rattle.job.specs.Job.{isJob, bodyOf}
 
 -- ---- what is lent

@@ -17,12 +17,12 @@ use Rattle.tif.specs.Side.{sideText}
 use Rattle.tif.specs.declared.side.Side.{Side}
 use Rattle.tif.specs.declared.side.Side.the-variants.{Credit, Debit, Neither}
 use Rattle.verdicts.specs.declared.record.Record.{Record}
-use Rattle.judge.specs.Answer.{answerCode, faultNumber}
+use Rattle.answers.specs.Answer.{answerCode, faultNumber}
 use Rattle.judge.specs.Call.{callOf, checkOf, summaryOf, wordsJudged, answerFor, answerSound, answerOf, marksOf, outOf, Judged}
-use Rattle.judge.specs.declared.answer.Answer.{Answer}
-use Rattle.judge.specs.declared.answer.Answer.the-variants.{Refused, Answered}
-use Rattle.judge.specs.declared.answer.CallFault.{CallFault}
-use Rattle.judge.specs.declared.answer.Summary.{Summary}
+use Rattle.answers.specs.declared.answer.Answer.{Answer}
+use Rattle.answers.specs.declared.answer.Answer.the-variants.{Refused, Answered}
+use Rattle.answers.specs.declared.answer.CallFault.{CallFault}
+use Rattle.answers.specs.declared.answer.Summary.{Summary}
 use Rattle.job.specs.Job.{isJob}
 use Rattle.job.specs.Printed.{recordsLent, outputLent, callOfJob, JudgedLent, digitCount, decimal, afterBlank, faultText, headText, countsText, amountsText, summaryText, answerText, textOf, printedOf}
 

@@ -5,10 +5,10 @@ use Prim.Native.Nat.{ℕ}
 use Rattle.lines.specs.Number.{digitsOf}
 use Rattle.tif.specs.Body.{grossOf}
 use Rattle.tif.specs.declared.side.Side.the-variants.{Debit}
-use Rattle.judge.specs.Call.{refusedFile}
-use Rattle.judge.specs.declared.answer.FileAnswer.{FileAnswer}
-use Rattle.judge.specs.declared.answer.FileAnswer.the-variants.{PartlyAccepted}
-use Rattle.judge.specs.declared.answer.Summary.{Summary}
+use Rattle.answers.specs.Told.{refusedFile}
+use Rattle.answers.specs.declared.answer.FileAnswer.{FileAnswer}
+use Rattle.answers.specs.declared.answer.FileAnswer.the-variants.{PartlyAccepted}
+use Rattle.answers.specs.declared.answer.Summary.{Summary}
 use Rattle.job.specs.Printed.{digitCount, decimal, afterBlank, headText, countsText, amountsText, summaryText}
 
 -- 0, and 2^64 - 1

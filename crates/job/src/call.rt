@@ -1,5 +1,5 @@
 use crate::job::body_of;
-use judge::Answer;
+use answers::Answer;
 use judge::judge;
 use lines::Gross;
 use lines::Net;

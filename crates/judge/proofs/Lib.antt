@@ -1,3 +1,3 @@
-pub mod Big
-pub mod Lines
-pub mod Local
+pub mod BigConstant
+pub mod LocalArray
+pub mod RecordsSoFar

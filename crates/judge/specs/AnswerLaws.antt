@@ -11,14 +11,15 @@ use Rattle.lines.specs.BoolLaws.{or-none-right}
 use Rattle.lines.specs.Splice.{splice}
 use Rattle.lines.specs.SpliceLaws.{splice-zero}
 use Rattle.tic.specs.Text.{ticText}
-use Rattle.judge.specs.Call.{Call, checkOf, wordsJudged, marksJudged, summaryOf, ticOfCall, tooSmall, answerOf, marksOf, outOf}
+use Rattle.answers.specs.Told.{tooSmall}
+use Rattle.judge.specs.Call.{Call, checkOf, wordsJudged, marksJudged, summaryOf, ticOfCall, answerOf, marksOf, outOf}
 use Rattle.judge.specs.Core.{wordsTried, CallTried}
 use Rattle.judge.specs.Records.{LineKnown}
-use Rattle.judge.specs.declared.answer.Answer.{Answer}
-use Rattle.judge.specs.declared.answer.Answer.the-variants.{Refused, Answered}
-use Rattle.judge.specs.declared.answer.CallCheck.{CallCheck}
-use Rattle.judge.specs.declared.answer.CallFault.{CallFault}
-use Rattle.judge.specs.declared.answer.Summary.{Summary}
+use Rattle.answers.specs.declared.answer.Answer.{Answer}
+use Rattle.answers.specs.declared.answer.Answer.the-variants.{Refused, Answered}
+use Rattle.answers.specs.declared.answer.CallCheck.{CallCheck}
+use Rattle.answers.specs.declared.answer.CallFault.{CallFault}
+use Rattle.answers.specs.declared.answer.Summary.{Summary}
 
 -- a call that E1 to E6 refuse
 pub refused-call : (c : Call) (f : CallFault) → checkOf c ≡ CallCheck.Faulty f → (words : List ℕ) → CallTried c words (Refused f) (c .marks) words (c .out)

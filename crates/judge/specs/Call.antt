@@ -1,34 +1,27 @@
 -- The call as a whole: what is lent, the answer, and what is lent afterwards. Assumes nothing.
 use mathlib.Core.Path.{_≡_}
-use mathlib.Core.Bool.{Bool, true, false, _||_, cond}
+use mathlib.Core.Bool.{Bool, true, false, cond}
 use mathlib.Core.List.{List, [], _++_}
-use Prim.Native.Nat.{ℕ, _+_, _*_, _≤_, _<_}
+use Prim.Native.Nat.{ℕ, _+_, _<_}
 use lib.ListN.{length, drop}
-use lib.Dec.{eqb, ltb}
 use Rattle.lines.specs.Splice.{splice}
 use Rattle.tif.specs.Acceptance.{acceptanceOf}
-use Rattle.tif.specs.Body.{grossOf}
 use Rattle.tif.specs.Name.{nameSender}
 use Rattle.tif.specs.Side.{sideOf}
 use Rattle.tif.specs.declared.acceptance.Acceptance.{Acceptance}
-use Rattle.tic.specs.Rewriting.{ticLength}
 use Rattle.tic.specs.Text.{Tic, ticText}
-use Rattle.tic.specs.declared.values.TicHead.{TicHead}
-use Rattle.tic.specs.declared.values.TicSums.{TicSums}
 use Rattle.verdicts.specs.declared.record.Record.{Record}
 use Rattle.judging.specs.Judging.{Judging, judging, marksBefore, wordsOf}
-use Rattle.judging.specs.Sums.{countOf, totalOf}
-use Rattle.judge.specs.Answer.{answerCode}
-use Rattle.judge.specs.Fault.{checkCall}
-use Rattle.judge.specs.Listing.{ticOf}
+use Rattle.answers.specs.Fault.{checkCall}
+use Rattle.answers.specs.Listing.{ticOf}
+use Rattle.answers.specs.Told.{summaryFor, headOf, sumsOf, tooSmall}
 use Rattle.judge.specs.Records.{LineKnown, recordsTo}
-use Rattle.judge.specs.declared.answer.Answer.{Answer}
-use Rattle.judge.specs.declared.answer.Answer.the-variants.{Refused, Answered}
-use Rattle.judge.specs.declared.answer.CallCheck.{CallCheck}
-use Rattle.judge.specs.declared.answer.CallFault.the-variants.{Room}
-use Rattle.judge.specs.declared.answer.FileAnswer.{FileAnswer}
-use Rattle.judge.specs.declared.answer.FileAnswer.the-variants.{Accepted, PartlyAccepted, AlreadyReceived, CountsDiffer, TotalDiffers, OutOfForm}
-use Rattle.judge.specs.declared.answer.Summary.{Summary}
+use Rattle.answers.specs.declared.answer.Answer.{Answer}
+use Rattle.answers.specs.declared.answer.Answer.the-variants.{Refused, Answered}
+use Rattle.answers.specs.declared.answer.CallCheck.{CallCheck}
+use Rattle.answers.specs.declared.answer.CallFault.the-variants.{Room}
+use Rattle.answers.specs.declared.answer.FileAnswer.the-variants.{AlreadyReceived, CountsDiffer, TotalDiffers, OutOfForm}
+use Rattle.answers.specs.declared.answer.Summary.{Summary}
 
 -- everything lent; of the record table only its length decides
 pub record Call : Type 0 where
@@ -73,14 +66,6 @@ linesToJudge Acceptance.OutOfForm = 0
 linesToJudge Acceptance.CountsDiffer = 0
 linesToJudge Acceptance.TotalDiffers = 0
 
--- the total that is told: zero with 02 to 05
-abbrev pub totalTold : Acceptance → ℕ
-totalTold (Acceptance.Judged w) = w .total .0
-totalTold Acceptance.AlreadyReceived = 0
-totalTold Acceptance.OutOfForm = 0
-totalTold Acceptance.CountsDiffer = 0
-totalTold Acceptance.TotalDiffers = 0
-
 -- the lines are judged by the side of the file, the sender in its name, the book and the open debits
 abbrev pub judgingOf : Call → Judging
 judgingOf c = judging (sideOf (c .tif)) (nameSender (c .name)) (c .book) (c .debits) (c .tif)
@@ -95,61 +80,11 @@ wordsJudged c = wordsOf (judgingOf c) (c .marks) (linesOf c)
 unfoldable pub marksJudged : Call → List ℕ
 marksJudged c = marksBefore (judgingOf c) (c .marks) (linesOf c)
 
--- 01 where a line is refused, 00 where none is
-unfoldable pub judgedAnswer : ℕ → FileAnswer
-judgedAnswer refused = cond (eqb refused 0) Accepted PartlyAccepted
-
-abbrev pub fileAnswer : Acceptance → ℕ → FileAnswer
-fileAnswer (Acceptance.Judged w) refused = judgedAnswer refused
-fileAnswer Acceptance.AlreadyReceived refused = AlreadyReceived
-fileAnswer Acceptance.OutOfForm refused = OutOfForm
-fileAnswer Acceptance.CountsDiffer refused = CountsDiffer
-fileAnswer Acceptance.TotalDiffers refused = TotalDiffers
-
--- what is told of a file with these words
-abbrev pub summaryFor : Acceptance → List ℕ → List ℕ → Summary
-summaryFor file tif words = record {
-  answer = fileAnswer file (countOf true words);
-  side = sideOf tif;
-  lines = length words;
-  accepted = countOf false words;
-  refused = countOf true words;
-  total = grossOf (totalTold file);
-  «accepted_amount» = grossOf (totalOf false tif words);
-  «refused_amount» = grossOf (totalOf true tif words);
-  length = ticLength (countOf true words);
-}
-
--- what is told of a file that is refused as a whole
-abbrev pub refusedFile : FileAnswer → List ℕ → Summary
-refusedFile answer tif = record {
-  answer = answer;
-  side = sideOf tif;
-  lines = 0;
-  accepted = 0;
-  refused = 0;
-  total = grossOf 0;
-  «accepted_amount» = grossOf 0;
-  «refused_amount» = grossOf 0;
-  length = ticLength 0;
-}
-
 unfoldable pub summaryOf : Call → Summary
 summaryOf c = summaryFor (fileOf c) (c .tif) (wordsJudged c)
 
--- the TIC's header and footer by what is told
-abbrev pub headOf : Summary → TicHead
-headOf s = record { acceptance = answerCode (s .answer); side = s .side; accepted = record { 0 = s .accepted }; rejected = record { 0 = s .refused } }
-
-abbrev pub sumsOf : Summary → TicSums
-sumsOf s = record { accepted = s .«accepted_amount»; rejected = s .«refused_amount» }
-
 unfoldable pub ticOfCall : Call → Tic
 ticOfCall c = ticOf (c .name) (c .received) (c .card) (c .tif) (wordsJudged c) (headOf (summaryOf c)) (sumsOf (summaryOf c))
-
--- E7: the output is shorter than the TIC, or there are fewer records than lines judged
-abbrev pub tooSmall : Summary → ℕ → ℕ → Bool
-tooSmall s room size = ltb size (s .length) || ltb room (s .lines)
 
 -- the answer of a call that is sound so far
 abbrev pub answerSound : Summary → ℕ → ℕ → Answer

@@ -13,11 +13,12 @@ use Rattle.verdicts.specs.Record.{recordOf}
 use Rattle.verdicts.specs.Verdict.{verdictOf}
 use Rattle.verdicts.specs.declared.record.Record.{Record}
 use Rattle.tif.specs.Body.{lineAt}
-use Rattle.judge.specs.Call.{Call, checkOf, wordsJudged, summaryOf, tooSmall, linesToRecord, answerOf, wordsKept, recordsOf, WordsJudged, Judged}
+use Rattle.answers.specs.Told.{tooSmall}
+use Rattle.judge.specs.Call.{Call, checkOf, wordsJudged, summaryOf, linesToRecord, answerOf, wordsKept, recordsOf, WordsJudged, Judged}
 use Rattle.judge.specs.Core.{wordsTried, CallTried}
 use Rattle.judge.specs.Records.{LineKnown, recordAt, recordsTo}
-use Rattle.judge.specs.declared.answer.Answer.{Answer}
-use Rattle.judge.specs.declared.answer.CallCheck.{CallCheck}
+use Rattle.answers.specs.declared.answer.Answer.{Answer}
+use Rattle.answers.specs.declared.answer.CallCheck.{CallCheck}
 
 -- the words that are recorded are those of the lines judged
 recorded-words : (c : Call) (z : List ℕ) (k : ℕ) → k < linesToRecord (answerOf c) → getD (splice z 0 (wordsTried c)) k 0 ≡ getD (wordsJudged c) k 0

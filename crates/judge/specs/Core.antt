@@ -13,13 +13,14 @@ use Rattle.judging.specs.Steps.{Given}
 use Rattle.tif.specs.declared.acceptance.Acceptance.{Acceptance}
 use Rattle.tif.specs.declared.acceptance.Whole.{Whole}
 use Rattle.tic.specs.Text.{ticText}
-use Rattle.judge.specs.Call.{Call, checkOf, fileOf, wordsJudged, headOf, sumsOf, tooSmall, answerSound, answerOf, marksOf, outOf, linesToRecord}
-use Rattle.judge.specs.Card.{verdictsInUse}
-use Rattle.judge.specs.Listing.{ticOf, TicRoom}
+use Rattle.answers.specs.Told.{headOf, sumsOf, tooSmall}
+use Rattle.judge.specs.Call.{Call, checkOf, fileOf, wordsJudged, answerSound, answerOf, marksOf, outOf, linesToRecord}
+use Rattle.answers.specs.Card.{verdictsInUse}
+use Rattle.answers.specs.Listing.{ticOf, TicRoom}
 use Rattle.judge.specs.Records.{LineKnown}
-use Rattle.judge.specs.declared.answer.CallCheck.{CallCheck}
-use Rattle.judge.specs.declared.answer.Answer.{Answer}
-use Rattle.judge.specs.declared.answer.Summary.{Summary}
+use Rattle.answers.specs.declared.answer.CallCheck.{CallCheck}
+use Rattle.answers.specs.declared.answer.Answer.{Answer}
+use Rattle.answers.specs.declared.answer.Summary.{Summary}
 
 -- lines to judge: a name of its width, what the judging asks for, and room for the words
 pub record LinesReady (name book debits marks tif : List ℕ) (n : ℕ) (words : List ℕ) : Type 0 where

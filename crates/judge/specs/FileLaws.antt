@@ -20,13 +20,14 @@ use Rattle.tif.specs.Body.{lineAt}
 use Rattle.judging.specs.Judging.{Judging, reachesAt, marksBefore, wordsOf}
 use Rattle.judging.specs.Sums.{Worded, countOf}
 use Rattle.tic.specs.Rewriting.{ticLength}
-use Rattle.judge.specs.Call.{Call, judgingOf, linesOf, linesToJudge, wordsJudged, marksJudged, summaryFor, summaryOf, headOf, sumsOf, ticOfCall, tooSmall}
+use Rattle.answers.specs.Told.{summaryFor, headOf, sumsOf, tooSmall}
+use Rattle.judge.specs.Call.{Call, judgingOf, linesOf, linesToJudge, wordsJudged, marksJudged, summaryOf, ticOfCall}
 use Rattle.judge.specs.Core.{Filled, Committable, Committed, FileReady}
 use Rattle.judge.specs.CoreLaws.{words-length}
-use Rattle.judge.specs.Listing.{ticOf, refusedBefore}
+use Rattle.answers.specs.Listing.{ticOf, refusedBefore}
 use Rattle.judge.specs.Records.{LineKnown}
 use Rattle.judge.specs.SoundLaws.{CallSound, check-shows, lines-few, sums-ready, line-there, list-ready}
-use Rattle.judge.specs.declared.answer.Summary.{Summary}
+use Rattle.answers.specs.declared.answer.Summary.{Summary}
 
 module _ (c : Call) (w : Whole) (words : List ℕ) (ready : FileReady c w words) where
   abbrev j : Judging

@@ -1,15 +1,9 @@
-pub mod Answer
 pub mod AnswerLaws
 pub mod Call
 pub mod CallLaws
-pub mod Card
 pub mod Core
 pub mod CoreLaws
-pub mod Fault
 pub mod FileLaws
-pub mod Listing
-pub mod ListingLaws
 pub mod Records
 pub mod SoundLaws
-pub mod TicLaws
 pub mod WholeLaws

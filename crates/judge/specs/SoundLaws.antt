@@ -33,15 +33,15 @@ use Rattle.verdicts.specs.declared.verdict.Verdict.{Verdict}
 use Rattle.judging.specs.Judging.{Judging, wordsOf, wordAt, verdictAt}
 use Rattle.judging.specs.Sums.{Worded}
 use Rattle.judge.specs.Call.{Call, checkOf, fileOf}
-use Rattle.judge.specs.Card.{isCard}
+use Rattle.answers.specs.Card.{isCard}
 use Rattle.judge.specs.Core.{LinesReady}
-use Rattle.judge.specs.Fault.{lentRows, checkLent, callRows, checkCall}
+use Rattle.answers.specs.Fault.{lentRows, checkLent, callRows, checkCall}
 use Rattle.judge.specs.CoreLaws.{words-length}
-use Rattle.judge.specs.Listing as Listing
-use Rattle.judge.specs.Listing.{numberAt}
-use Rattle.judge.specs.declared.answer.CallCheck.{CallCheck}
-use Rattle.judge.specs.declared.answer.CallCheck.the-variants.{Faulty}
-use Rattle.judge.specs.declared.answer.CallFault.{CallFault}
+use Rattle.answers.specs.Listing as Listing
+use Rattle.answers.specs.Listing.{numberAt}
+use Rattle.answers.specs.declared.answer.CallCheck.{CallCheck}
+use Rattle.answers.specs.declared.answer.CallCheck.the-variants.{Faulty}
+use Rattle.answers.specs.declared.answer.CallFault.{CallFault}
 
 -- a row that names a fault was not the one
 cleared : (b : Bool) (f : CallFault) (rows : List (Row CallCheck)) (other : CallCheck) → firstOf ((b ⇒ Faulty f) ∷ rows) other ≡ CallCheck.Sound → (b ≡ false) × (firstOf rows other ≡ CallCheck.Sound)

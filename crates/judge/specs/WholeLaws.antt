@@ -18,17 +18,18 @@ use Rattle.debits.specs.Credits.{marksAfter}
 use Rattle.tif.specs.declared.acceptance.Acceptance.{Acceptance}
 use Rattle.judging.specs.Judging.{wordsOf}
 use Rattle.judging.specs.Sums.{countOf, totalOf}
-use Rattle.judge.specs.Call.{Call, checkOf, fileOf, linesOf, linesToJudge, totalTold, fileAnswer, wordsJudged, marksJudged, refusedFile, summaryOf, headOf, sumsOf, ticOfCall, tooSmall}
+use Rattle.answers.specs.Told.{totalTold, fileAnswer, refusedFile, headOf, sumsOf, tooSmall}
+use Rattle.judge.specs.Call.{Call, checkOf, fileOf, linesOf, linesToJudge, wordsJudged, marksJudged, summaryOf, ticOfCall}
 use Rattle.judge.specs.Core.{Widths, FileRefused, CallTried}
-use Rattle.judge.specs.Listing.{ticOf, refusedBefore, TicRoom}
+use Rattle.answers.specs.Listing.{ticOf, refusedBefore, TicRoom}
 use Rattle.judge.specs.AnswerLaws.{no-room, answered}
 use Rattle.judge.specs.SoundLaws.{check-shows}
-use Rattle.judge.specs.declared.answer.Answer.{Answer}
-use Rattle.judge.specs.declared.answer.Answer.the-variants.{Refused, Answered}
-use Rattle.judge.specs.declared.answer.CallCheck.{CallCheck}
-use Rattle.judge.specs.declared.answer.CallFault.{CallFault}
-use Rattle.judge.specs.declared.answer.FileAnswer.{FileAnswer}
-use Rattle.judge.specs.declared.answer.Summary.{Summary}
+use Rattle.answers.specs.declared.answer.Answer.{Answer}
+use Rattle.answers.specs.declared.answer.Answer.the-variants.{Refused, Answered}
+use Rattle.answers.specs.declared.answer.CallCheck.{CallCheck}
+use Rattle.answers.specs.declared.answer.CallFault.{CallFault}
+use Rattle.answers.specs.declared.answer.FileAnswer.{FileAnswer}
+use Rattle.answers.specs.declared.answer.Summary.{Summary}
 
 -- the writing function's own answers
 module _ (name received card tif : List ℕ) (a : FileAnswer) (room : ℕ) (out : List ℕ) (s : Summary) (is : s ≡ refusedFile a tif) where

@@ -1,7 +1,7 @@
-use crate::answer::Answer;
 use crate::core::lines_to_record;
 use crate::core::try_call;
 use crate::records::fill;
+use answers::Answer;
 use verdicts::Record;
 ghost use lib.ListN.{length};
 ghost use Rattle.judge.specs.Call.{callOf, Judged};

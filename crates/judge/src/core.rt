@@ -1,15 +1,15 @@
-use crate::answer::Answer;
-use crate::answer::CallCheck;
-use crate::answer::CallFault;
-use crate::answer::FileAnswer;
-use crate::answer::Summary;
-use crate::fault::check_call;
-use crate::listing::put_tic;
-use crate::outcome::head_of;
-use crate::outcome::is_too_small;
-use crate::outcome::summarize;
-use crate::outcome::summarize_refused;
-use crate::outcome::sums_told;
+use answers::Answer;
+use answers::CallCheck;
+use answers::CallFault;
+use answers::FileAnswer;
+use answers::Summary;
+use answers::check_call;
+use answers::head_of;
+use answers::is_too_small;
+use answers::put_tic;
+use answers::summarize;
+use answers::summarize_refused;
+use answers::sums_told;
 use judging::judge_lines;
 use lines::field;
 use lines::put_bytes;
@@ -21,7 +21,8 @@ use tif::side_of;
 ghost use mathlib.Core.Path.{_≡_};
 ghost use Prim.Native.Nat.{_≤_};
 ghost use lib.ListN.{length, take};
-ghost use Rattle.judge.specs.Call.{callOf, linesToRecord, refusedFile};
+ghost use Rattle.answers.specs.Told.{refusedFile};
+ghost use Rattle.judge.specs.Call.{callOf, linesToRecord};
 ghost use Rattle.judge.specs.Core.{LinesReady, Filled, Committable, Committed, SoundReady, FileReady, Widths, FileRefused, CallTried};
 
 // Judges the first n lines into the front of words, on marks that are a copy.

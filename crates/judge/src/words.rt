@@ -1,6 +1,6 @@
-use crate::answer::Answer;
 use crate::core::lines_to_record;
 use crate::core::try_call;
+use answers::Answer;
 ghost use mathlib.Core.Path.{_≡_};
 ghost use Prim.Native.Nat.{_≤_};
 ghost use lib.ListN.{length};

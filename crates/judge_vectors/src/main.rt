@@ -1,14 +1,17 @@
 // Runs whole calls from standard input, and prints for each its answer, the marks afterwards, the record of each line judged and all of the output lent.
+use answers::Answer;
+use answers::CallFault;
+use answers::FileAnswer;
+use answers::Summary;
+use answers::answer_code;
+use answers::fault_number;
 use frames::Kind;
 use frames::print_bytes;
 use frames::print_line_feed;
+use frames::print_marks;
 use frames::print_number;
 use frames::read_kind;
 use frames::read_part;
-use judge::Answer;
-use judge::CallFault;
-use judge::FileAnswer;
-use judge::Summary;
 use judge::judge_words;
 use judge::lines_to_record;
 use tif::Side;
@@ -32,26 +35,14 @@ fn print_size(size: usize) {
 }
 
 fn print_fault(fault: CallFault) {
-    match fault {
-        CallFault::FileName => print_bytes(b"E1"),
-        CallFault::ReceptionMoment => print_bytes(b"E2"),
-        CallFault::CodeCard => print_bytes(b"E3"),
-        CallFault::ReceivedNames => print_bytes(b"E4"),
-        CallFault::Book => print_bytes(b"E5"),
-        CallFault::OpenDebits => print_bytes(b"E6"),
-        CallFault::Room => print_bytes(b"E7"),
-    }
+    print_bytes(b"E");
+    print_number(fault_number(fault));
 }
 
 fn print_file_answer(answer: FileAnswer) {
-    match answer {
-        FileAnswer::Accepted => print_bytes(b"00 "),
-        FileAnswer::PartlyAccepted => print_bytes(b"01 "),
-        FileAnswer::AlreadyReceived => print_bytes(b"02 "),
-        FileAnswer::CountsDiffer => print_bytes(b"03 "),
-        FileAnswer::TotalDiffers => print_bytes(b"04 "),
-        FileAnswer::OutOfForm => print_bytes(b"05 "),
-    }
+    print_bytes(b"0");
+    print_number(answer_code(answer));
+    print_bytes(b" ");
 }
 
 fn print_side(side: Side) {
@@ -97,14 +88,6 @@ fn print_answer(answer: Answer) {
 // What stands between the parts of what is printed.
 fn print_stroke() {
     print_bytes(b" /");
-}
-
-fn print_marks(marks: &[u8]) {
-    let mut j = 0;
-    while j < marks.len() {
-        print_number(marks[j] as u64);
-        j += 1;
-    }
 }
 
 // The verdict is printed as its word.

@@ -4,12 +4,12 @@ use mathlib.Core.Bool.{Bool, true, false, not, cond}
 use mathlib.Core.List.{List}
 use Prim.Native.Nat.{ℕ, zero, suc, _+_, _*_, _≤_, _<_}
 use native.Mathlib.Omega.{arith}
-use lib.ListN.{length, drop, length-take}
+use lib.ListN.{length}
 use Rattle.lines.specs.Below.{sumBelow}
 use Rattle.lines.specs.BelowLaws.{sum-both, sum-le}
 use Rattle.lines.specs.Number.{allDigits, numberOf}
-use Rattle.lines.specs.NumberLaws.{number-small}
 use Rattle.passage.specs.Passage.{grossAmount}
+use Rattle.passage.specs.PassageLaws.{gross-small}
 use Rattle.tif.specs.Body.{lineAt, amountAt, bodyTotal}
 use Rattle.verdicts.specs.Record.{valueOf}
 use Rattle.judging.specs.Sums.{isAccepted, isCounted, oneAt, amountOf, countOf, totalOf, Worded}
@@ -68,7 +68,7 @@ module _ (refused : Bool) (tif words : List ℕ) (w : Worded tif words) where
   amount-small k h = go (isCounted refused words k)
     where
       go : (b : Bool) → cond b (numberOf (grossAmount (lineAt tif k))) 0 ≤ 99999999999
-      go true = omega (arith, number-small (grossAmount (lineAt tif k)) 11 (omega (arith, length-take 11 (drop 136 (lineAt tif k)))) (w .digits k h))
+      go true = gross-small (lineAt tif k) (w .digits k h)
       go false = omega arith
 
   pub amounts-small : (k : ℕ) → k ≤ length words → sumBelow k (amountOf refused tif words) ≤ 99999999999 * k

@@ -5,6 +5,7 @@ use debits::debits_sound;
 use frames::Kind;
 use frames::print_bytes;
 use frames::print_line_feed;
+use frames::print_marks;
 use frames::print_number;
 use frames::read_kind;
 use frames::read_part;
@@ -44,14 +45,6 @@ fn print_words(words: &[u64]) {
 // What stands between the words and the marks.
 fn print_stroke() {
     print_bytes(b"/");
-}
-
-fn print_marks(marks: &[u8]) {
-    let mut j = 0;
-    while j < marks.len() {
-        print_number(marks[j] as u64);
-        j += 1;
-    }
 }
 
 fn print_counts(accepted: Tally, refused: Tally) {

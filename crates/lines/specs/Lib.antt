@@ -1,5 +1,6 @@
 pub mod Below
 pub mod BelowLaws
+pub mod BelowSame
 pub mod BoolLaws
 pub mod Tests
 pub mod FirstOf

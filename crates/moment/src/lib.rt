@@ -158,7 +158,7 @@ pub fn check_moment(s: &[u8]) -> Moment
     }
 }
 
-fn is_real(m: Moment) -> bool
+pub fn is_real(m: Moment) -> bool
     ensures { λ r. ⌜ r ≡ isReal m ⌝ }
 {
     match m {

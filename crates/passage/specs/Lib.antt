@@ -1,1 +1,2 @@
 pub mod Passage
+pub mod PassageLaws

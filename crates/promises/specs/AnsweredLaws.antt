@@ -8,11 +8,11 @@ use Rattle.lines.specs.SpliceLaws.{splice-zero}
 use Rattle.tic.specs.Text.{ticText}
 use Rattle.verdicts.specs.declared.record.Record.{Record}
 use Rattle.judge.specs.Call.{Call, marksJudged, ticOfCall, marksOf, outOf, Judged}
-use Rattle.judge.specs.declared.answer.Answer.the-variants.{Answered}
-use Rattle.judge.specs.declared.answer.Summary.{Summary}
+use Rattle.answers.specs.declared.answer.Answer.the-variants.{Answered}
+use Rattle.answers.specs.declared.answer.Summary.{Summary}
 use Rattle.promises.specs.LeftLaws.{Shown, answered-shows}
 use Rattle.promises.specs.Written.{valuesOfTic, ticWritten}
-use Rattle.promises.specs.WrittenLaws.{same-text, written-sound, written-length}
+use Rattle.promises.specs.WrittenLaws.{same-text, written-length}
 
 module _ (c : Call) (records : List Record) (marks′ : List ℕ) (records′ : List Record) (out′ : List ℕ) (s : Summary) (j : Judged c records (Answered s) marks′ records′ out′) where
   pub shows : Shown c s

@@ -5,13 +5,13 @@ use mathlib.Core.List.{List}
 use Prim.Native.Nat.{ℕ, _≤_}
 use native.Mathlib.Omega.{arith}
 use Rattle.verdicts.specs.declared.record.Record.{Record}
-use Rattle.judge.specs.Answer.{faultNumber, answerCode}
+use Rattle.answers.specs.Answer.{faultNumber, answerCode}
 use Rattle.judge.specs.Call.{Call, answerOf, marksOf, recordsOf, outOf, Judged}
 use Rattle.judge.specs.Records.{recordsTo}
-use Rattle.judge.specs.declared.answer.Answer.{Answer}
-use Rattle.judge.specs.declared.answer.Answer.the-variants.{Refused}
-use Rattle.judge.specs.declared.answer.CallFault.{CallFault}
-use Rattle.judge.specs.declared.answer.FileAnswer.{FileAnswer}
+use Rattle.answers.specs.declared.answer.Answer.{Answer}
+use Rattle.answers.specs.declared.answer.Answer.the-variants.{Refused}
+use Rattle.answers.specs.declared.answer.CallFault.{CallFault}
+use Rattle.answers.specs.declared.answer.FileAnswer.{FileAnswer}
 
 -- ---- every call has an answer
 -- whatever is lent, there is a result that the contract of `judge` allows; nothing is asked of what is lent

@@ -32,12 +32,13 @@ use Rattle.verdicts.specs.Verdict.{verdictNumber}
 use Rattle.judging.specs.Judging.{verdictAt}
 use Rattle.judging.specs.Sums.{isAccepted, isCounted}
 use Rattle.judging.specs.SumsLaws.{counts-add, amounts-add}
-use Rattle.judge.specs.Call.{Call, fileOf, totalTold, judgingOf, wordsJudged, marksJudged, summaryOf, ticOfCall, linesToRecord, recordsOf, Judged}
-use Rattle.judge.specs.Card.{codeOf}
-use Rattle.judge.specs.Listing.{refusedAt, refusedBefore}
+use Rattle.answers.specs.Told.{totalTold}
+use Rattle.judge.specs.Call.{Call, fileOf, judgingOf, wordsJudged, marksJudged, summaryOf, ticOfCall, linesToRecord, recordsOf, Judged}
+use Rattle.answers.specs.Card.{codeOf}
+use Rattle.answers.specs.Listing.{refusedAt, refusedBefore}
 use Rattle.judge.specs.SoundLaws.{check-shows, judged}
-use Rattle.judge.specs.declared.answer.Answer.the-variants.{Answered}
-use Rattle.judge.specs.declared.answer.Summary.{Summary}
+use Rattle.answers.specs.declared.answer.Answer.the-variants.{Answered}
+use Rattle.answers.specs.declared.answer.Summary.{Summary}
 use Rattle.promises.specs.AnsweredLaws.{shows, marks-then, out-then, written-is}
 use Rattle.promises.specs.LeftLaws.{line-recorded}
 use Rattle.promises.specs.RefusalsLaws.{Placed, placed, numbered, in-order}

@@ -30,9 +30,9 @@ use Rattle.verdicts.specs.declared.verdict.Verdict.the-variants.{Credits, Wrong
 use Rattle.judging.specs.Judging.{Judging, reachesAt, marksBefore, verdictAt}
 use Rattle.judging.specs.Marks.{debitOf, debit-file-keeps}
 use Rattle.judge.specs.Call.{Call, fileOf, judgingOf, linesOf, linesToJudge, linesToRecord, answerOf, Judged}
-use Rattle.judge.specs.declared.answer.Answer.{Answer}
-use Rattle.judge.specs.declared.answer.Answer.the-variants.{Refused, Answered}
-use Rattle.judge.specs.declared.answer.Summary.{Summary}
+use Rattle.answers.specs.declared.answer.Answer.{Answer}
+use Rattle.answers.specs.declared.answer.Answer.the-variants.{Refused, Answered}
+use Rattle.answers.specs.declared.answer.Summary.{Summary}
 use Rattle.promises.specs.Demand3Laws.{reaches-is, accepted-reaches, refused-reaches, accepted-verdict, refused-verdict, carrying, taking-is, marked-then, unmarked-first, unchanged}
 use Rattle.promises.specs.LeftLaws.{answered-lines, verdict-recorded, marks-left}
 

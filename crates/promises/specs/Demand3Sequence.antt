@@ -11,8 +11,8 @@ use lib.Seq.{getD-set-same, getD-set-other}
 use lib.Dec.{eqb}
 use borrow.Author.Tests.{eqb-true, eqb-false}
 use Rattle.lines.specs.Below.{joinBelow}
+use Rattle.lines.specs.BelowSame.{join-same}
 use Rattle.tif.specs.Body.{lineAt}
-use Rattle.tic.specs.FileLaws.{join-same}
 use Rattle.debits.specs.Credits.{marksAfter, placeAt, creditAccepted}
 use Rattle.debits.specs.CreditsLaws.{accepted-is, skipped-is, after-length}
 use Rattle.debits.specs.Sequence.{Open, Step, judged, added, openAfter, placeIfTaken, placesOf, placesTaken, NoneTwice}
@@ -25,7 +25,7 @@ use Rattle.verdicts.specs.declared.verdict.Verdict.the-variants.{Credits}
 use Rattle.judging.specs.Judging.{reachesAt, verdictAt}
 use Rattle.judging.specs.Marks.{debitOf}
 use Rattle.judge.specs.Call.{Call, callOf, judgingOf, linesToRecord, answerOf, marksOf, outOf, recordsOf, Judged}
-use Rattle.judge.specs.declared.answer.Answer.{Answer}
+use Rattle.answers.specs.declared.answer.Answer.{Answer}
 use Rattle.promises.specs.Demand3.{verdictIn, marks-follow-records, verdict-left, marks-then}
 use Rattle.promises.specs.Demand3Laws.{accepted-verdict, carried-number}
 

@@ -8,7 +8,7 @@ use lib.ListN.{length, getD}
 use Rattle.verdicts.specs.declared.record.Record.{Record}
 use Rattle.verdicts.specs.declared.verdict.Verdict.the-variants.{NotCovered}
 use Rattle.judge.specs.Call.{Call, answerOf, marksOf}
-use Rattle.judge.specs.declared.answer.Answer.the-variants.{Answered}
+use Rattle.answers.specs.declared.answer.Answer.the-variants.{Answered}
 use Rattle.promises.specs.WorkedCall.{workedCall}
 use Rattle.promises.specs.WorkedFile.{recordWith}
 use Rattle.promises.specs.WorkedCredits.{creditCall, creditAccepted, creditRefused, credit-answers, credit-marks}

@@ -14,13 +14,14 @@ use Rattle.book.specs.LeaseLaws.{same-sound}
 use Rattle.tic.specs.Text.{Tic, ticText}
 use Rattle.verdicts.specs.declared.record.Record.{Record}
 use Rattle.judging.specs.Judging.{verdictAt}
-use Rattle.judge.specs.Call.{Call, callOf, checkOf, fileOf, judgingOf, linesOf, wordsJudged, marksJudged, summaryFor, summaryOf, headOf, sumsOf, ticOfCall, answerSound, answerFor, answerOf, isAnswered, marksOf, outOf, linesToRecord, recordsOf, Judged}
-use Rattle.judge.specs.Fault.{checkLent, checkCall}
-use Rattle.judge.specs.Listing.{ticOf}
+use Rattle.answers.specs.Told.{summaryFor, headOf, sumsOf}
+use Rattle.judge.specs.Call.{Call, callOf, checkOf, fileOf, judgingOf, linesOf, wordsJudged, marksJudged, summaryOf, ticOfCall, answerSound, answerFor, answerOf, isAnswered, marksOf, outOf, linesToRecord, recordsOf, Judged}
+use Rattle.answers.specs.Fault.{checkLent, checkCall}
+use Rattle.answers.specs.Listing.{ticOf}
 use Rattle.judge.specs.Records.{recordsTo}
-use Rattle.judge.specs.declared.answer.Answer.{Answer}
-use Rattle.judge.specs.declared.answer.CallCheck.{CallCheck}
-use Rattle.judge.specs.declared.answer.Summary.{Summary}
+use Rattle.answers.specs.declared.answer.Answer.{Answer}
+use Rattle.answers.specs.declared.answer.CallCheck.{CallCheck}
+use Rattle.answers.specs.declared.answer.Summary.{Summary}
 use Rattle.promises.specs.LeaseReferencesLaws.{lease-byte, same-marks, same-verdict, same-words}
 
 -- the same call with another book lent

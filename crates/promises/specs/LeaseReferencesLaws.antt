@@ -2,11 +2,10 @@
 -- Assumes nothing.
 use mathlib.Core.Path.{_≡_, refl, sym, ap, _∙_}
 use mathlib.Core.List.{List, _++_}
-use Prim.Native.Nat.{ℕ, zero, suc, _+_, _≤_, _<_}
-use native.Mathlib.Omega.{arith}
+use Prim.Native.Nat.{ℕ, _+_, _≤_, _<_}
 use lib.ListN.{set, length-set}
 use lib.Seq.{getD-set-other}
-use Rattle.lines.specs.Below.{tableBelow}
+use Rattle.lines.specs.BelowSame.{table-same}
 use Rattle.lines.specs.FirstOf.{firstOf}
 use Rattle.passage.specs.Passage.{pan, exitMoment, detectedPlate, detectedNation}
 use Rattle.tif.specs.Body.{lineAt}
@@ -17,12 +16,6 @@ use Rattle.book.specs.declared.cover.Cover.{Cover}
 use Rattle.verdicts.specs.LineTests.{lineRows}
 use Rattle.verdicts.specs.Verdict.{wordOf}
 use Rattle.judging.specs.Judging.{Judging, judging, repeatedAt, coverOn, fileRows, acceptedBy, takenOn, verdictOn, reachesAt, marksBefore, verdictAt, wordAt, wordsOf}
-
--- tables of two functions that agree on each number below k
-pub table-same : (f g : ℕ → ℕ) (k : ℕ) → ((i : ℕ) → i < k → f i ≡ g i) → tableBelow k f ≡ tableBelow k g
-unfolding tableBelow
-table-same f g zero each = refl
-table-same f g (suc k) each = rw (table-same f g k (λ i h. each i (omega arith)), each k (omega arith))
 
 -- a book and the same with another byte in the lease reference of agreement i, counted from 0: they differ in nothing else
 pub lease-byte : (w : ℕ) (book : List ℕ) (i k byte : ℕ) → i < agreements book → bodyPlace w book i ≤ k → k < bodyPlace w book i + 12 → SameButLeases w book (set book k byte)

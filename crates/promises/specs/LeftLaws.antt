@@ -16,14 +16,15 @@ use Rattle.verdicts.specs.Verdict.{verdictOf}
 use Rattle.verdicts.specs.declared.record.Record.{Record}
 use Rattle.judging.specs.Judging.{marksBefore, verdictAt, wordAt, wordsOf}
 use Rattle.judging.specs.WordLaws.{word-verdict}
-use Rattle.judge.specs.Call.{Call, checkOf, judgingOf, linesOf, wordsJudged, marksJudged, summaryOf, tooSmall, linesToRecord, isAnswered, answerOf, marksOf, recordsOf}
+use Rattle.answers.specs.Told.{tooSmall}
+use Rattle.judge.specs.Call.{Call, checkOf, judgingOf, linesOf, wordsJudged, marksJudged, summaryOf, linesToRecord, isAnswered, answerOf, marksOf, recordsOf}
 use Rattle.judge.specs.CoreLaws.{words-length}
 use Rattle.judge.specs.Records.{recordAt, recordsTo}
 use Rattle.judge.specs.SoundLaws.{check-shows}
-use Rattle.judge.specs.declared.answer.Answer.{Answer}
-use Rattle.judge.specs.declared.answer.Answer.the-variants.{Refused, Answered}
-use Rattle.judge.specs.declared.answer.CallCheck.{CallCheck}
-use Rattle.judge.specs.declared.answer.Summary.{Summary}
+use Rattle.answers.specs.declared.answer.Answer.{Answer}
+use Rattle.answers.specs.declared.answer.Answer.the-variants.{Refused, Answered}
+use Rattle.answers.specs.declared.answer.CallCheck.{CallCheck}
+use Rattle.answers.specs.declared.answer.Summary.{Summary}
 
 records-long : (tif words : List ℕ) (n : ℕ) → length (recordsTo tif words n) ≡ n
 unfolding recordsTo

@@ -1,7 +1,7 @@
 -- No refusal is ever dropped. However many lines of a file are refused, up to all 9,999, each has its line in the TIC, or the call is E7 and nothing was written.
 -- Assumes nothing.
-use mathlib.Core.Path.{_≡_, refl, sym, ap, _∙_}
-use mathlib.Core.Bool.{Bool, true, false, _||_}
+use mathlib.Core.Path.{_≡_, refl, _∙_}
+use mathlib.Core.Bool.{Bool, true, false}
 use mathlib.Core.List.{List}
 use Prim.Native.Nat.{ℕ, _+_, _*_, _≤_, _<_}
 use native.Mathlib.Omega.{arith}
@@ -10,18 +10,18 @@ use lib.Dec.{ltb}
 use borrow.Author.Tests.{le-ltb}
 use Rattle.lines.specs.BoolLaws.{or-false}
 use Rattle.tif.specs.declared.acceptance.Acceptance.{Acceptance}
-use Rattle.tif.specs.declared.acceptance.Whole.{Whole}
 use Rattle.verdicts.specs.declared.record.Record.{Record}
 use Rattle.judging.specs.Sums.{countOf}
 use Rattle.judging.specs.SumsLaws.{count-within}
-use Rattle.judge.specs.Call.{Call, checkOf, fileOf, linesOf, linesToJudge, wordsJudged, summaryOf, tooSmall, answerOf, Judged}
-use Rattle.judge.specs.Listing.{refusedAt, refusedBefore}
+use Rattle.answers.specs.Told.{tooSmall}
+use Rattle.judge.specs.Call.{Call, checkOf, fileOf, linesOf, linesToJudge, wordsJudged, summaryOf, answerOf, Judged}
+use Rattle.answers.specs.Listing.{refusedAt, refusedBefore}
 use Rattle.judge.specs.SoundLaws.{check-shows, lines-few}
-use Rattle.judge.specs.declared.answer.Answer.{Answer}
-use Rattle.judge.specs.declared.answer.Answer.the-variants.{Refused, Answered}
-use Rattle.judge.specs.declared.answer.CallCheck.{CallCheck}
-use Rattle.judge.specs.declared.answer.CallFault.the-variants.{Room}
-use Rattle.judge.specs.declared.answer.Summary.{Summary}
+use Rattle.answers.specs.declared.answer.Answer.{Answer}
+use Rattle.answers.specs.declared.answer.Answer.the-variants.{Refused, Answered}
+use Rattle.answers.specs.declared.answer.CallCheck.{CallCheck}
+use Rattle.answers.specs.declared.answer.CallFault.the-variants.{Room}
+use Rattle.answers.specs.declared.answer.Summary.{Summary}
 use Rattle.promises.specs.Demand1.{Untouched, refused-leaves-all}
 use Rattle.promises.specs.Demand2.{Lists, each-refused-is-listed}
 use Rattle.promises.specs.WrittenLaws.{lines-count, words-count}

@@ -1,21 +1,21 @@
 -- The refused lines of a file, numbered in file order: each has its number, and each number its line. Assumes nothing.
 use mathlib.Core.Path.{_≡_, refl, sym, ap, _∙_, subst}
-use mathlib.Core.Bool.{Bool, true, false, _&&_, _||_, cond}
+use mathlib.Core.Bool.{Bool, true, false, _||_, cond}
 use mathlib.Core.List.{List}
 use Prim.Native.Nat.{ℕ, zero, suc, _+_, _-_, _≤_, _<_}
-use native.Mathlib.Nat.{not-suc-le-zero, add-zero}
+use native.Mathlib.Nat.{add-zero}
 use native.Mathlib.Numerals.{add-one}
 use native.Mathlib.Omega.{arith}
 use lib.ListN.{length}
 use lib.Dec.{eqb, ltb}
 use borrow.Author.Tests.{eqb-true, eq-eqb, ltb-true, ltb-false}
 use Rattle.lines.specs.Below.{someBelow, sumBelow}
-use Rattle.lines.specs.BelowLaws.{some-suc, first-is, sum-suc}
+use Rattle.lines.specs.BelowLaws.{some-suc, first-is}
 use Rattle.lines.specs.BoolLaws.{and-true, and-left, and-right, or-true-left, or-true-right}
 use Rattle.tif.specs.Body.{amountAt}
 use Rattle.judging.specs.Sums.{isCounted, oneAt, amountOf, countOf, totalOf}
-use Rattle.judge.specs.Listing.{refusedAt, refusedOne, refusedBefore, isRefusal, refusedPlace}
-use Rattle.judge.specs.ListingLaws.{before-zero, before-suc, before-le, place-is}
+use Rattle.answers.specs.Listing.{refusedAt, refusedOne, refusedBefore, isRefusal, refusedPlace}
+use Rattle.answers.specs.ListingLaws.{before-zero, before-suc, before-le, place-is}
 
 module _ (words : List ℕ) where
   one-yes : (k : ℕ) → refusedAt words k ≡ true → refusedOne words k ≡ 1

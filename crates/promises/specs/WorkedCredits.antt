@@ -42,13 +42,14 @@ use Rattle.judging.specs.Sums.{isAccepted, isCounted, oneAt, amountOf, countOf,
 use Rattle.tic.specs.Pieces.{joined}
 use Rattle.tic.specs.Sound.{notFeed}
 use Rattle.tic.specs.Text.{zeros, blanks}
-use Rattle.judge.specs.Call.{Call, checkOf, fileOf, judgingOf, judgedAnswer, answerOf, marksOf}
-use Rattle.judge.specs.Card.{isCard}
-use Rattle.judge.specs.Fault.{checkLent, checkCall}
-use Rattle.judge.specs.declared.answer.Answer.the-variants.{Answered}
-use Rattle.judge.specs.declared.answer.CallCheck.{CallCheck}
-use Rattle.judge.specs.declared.answer.FileAnswer.the-variants.{Accepted, PartlyAccepted}
-use Rattle.judge.specs.declared.answer.Summary.{Summary}
+use Rattle.answers.specs.Told.{judgedAnswer}
+use Rattle.judge.specs.Call.{Call, checkOf, fileOf, judgingOf, answerOf, marksOf}
+use Rattle.answers.specs.Card.{isCard}
+use Rattle.answers.specs.Fault.{checkLent, checkCall}
+use Rattle.answers.specs.declared.answer.Answer.the-variants.{Answered}
+use Rattle.answers.specs.declared.answer.CallCheck.{CallCheck}
+use Rattle.answers.specs.declared.answer.FileAnswer.the-variants.{Accepted, PartlyAccepted}
+use Rattle.answers.specs.declared.answer.Summary.{Summary}
 use Rattle.promises.specs.WorkedCall.{Passing, lineWith, headerWith, footerWith, rowOf, tifWith, knownPan, firstPassing, workedCard}
 use Rattle.promises.specs.WorkedLaws.{line-feed, WholeRows, tif-framed, acceptanceWith, file-by, answer-is, marks-are}
 

@@ -50,16 +50,17 @@ use Rattle.tic.specs.Pieces.{joined}
 use Rattle.tic.specs.Sound.{notFeed}
 use Rattle.tic.specs.Text.{zeros, blanks, headerText, listedText, footerText, listedAt, ticText}
 use Rattle.tic.specs.Worked.{workedHeader}
-use Rattle.judge.specs.Call.{checkOf, fileOf, judgingOf, judgedAnswer, summaryFor, headOf, sumsOf, answerSound, answerOf, marksOf, outOf, recordsOf, Judged}
-use Rattle.judge.specs.Card.{isCard, codeOf}
-use Rattle.judge.specs.Fault.{checkLent, checkCall}
-use Rattle.judge.specs.Listing.{refusedBefore, isRefusal, refusedPlace, ticOf}
+use Rattle.answers.specs.Told.{judgedAnswer, summaryFor, headOf, sumsOf}
+use Rattle.judge.specs.Call.{checkOf, fileOf, judgingOf, answerSound, answerOf, marksOf, outOf, recordsOf, Judged}
+use Rattle.answers.specs.Card.{isCard, codeOf}
+use Rattle.answers.specs.Fault.{checkLent, checkCall}
+use Rattle.answers.specs.Listing.{refusedBefore, isRefusal, refusedPlace, ticOf}
 use Rattle.judge.specs.Records.{recordAt, recordsTo}
-use Rattle.judge.specs.declared.answer.CallCheck.{CallCheck}
-use Rattle.judge.specs.declared.answer.Answer.{Answer}
-use Rattle.judge.specs.declared.answer.Answer.the-variants.{Answered}
-use Rattle.judge.specs.declared.answer.FileAnswer.the-variants.{PartlyAccepted}
-use Rattle.judge.specs.declared.answer.Summary.{Summary}
+use Rattle.answers.specs.declared.answer.CallCheck.{CallCheck}
+use Rattle.answers.specs.declared.answer.Answer.{Answer}
+use Rattle.answers.specs.declared.answer.Answer.the-variants.{Answered}
+use Rattle.answers.specs.declared.answer.FileAnswer.the-variants.{PartlyAccepted}
+use Rattle.answers.specs.declared.answer.Summary.{Summary}
 use Rattle.promises.specs.WorkedCall.{lineWith, headerWith, footerWith, rowOf, tifWith, firstPassing, secondPassing, thirdPassing, workedName, workedCard, workedRows, workedWith, workedCall}
 use Rattle.promises.specs.WorkedLaws.{line-feed, WholeRows, tif-framed, acceptanceWith, file-by, answer-is, out-is, records-are, marks-are}
 

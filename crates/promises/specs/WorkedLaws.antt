@@ -28,12 +28,13 @@ use Rattle.tic.specs.FreeLaws.{FeedFree, with-piece, joined-feed, digits-free, 
 use Rattle.tic.specs.Pieces.{joined}
 use Rattle.tic.specs.Sound.{notFeed}
 use Rattle.tic.specs.Text.{zeros, blanks, ticText}
-use Rattle.judge.specs.Call.{Call, checkOf, fileOf, judgingOf, wordsJudged, marksJudged, summaryFor, summaryOf, headOf, sumsOf, ticOfCall, answerSound, answerOf, marksOf, outOf, recordsOf}
-use Rattle.judge.specs.Listing.{ticOf}
+use Rattle.answers.specs.Told.{summaryFor, headOf, sumsOf}
+use Rattle.judge.specs.Call.{Call, checkOf, fileOf, judgingOf, wordsJudged, marksJudged, summaryOf, ticOfCall, answerSound, answerOf, marksOf, outOf, recordsOf}
+use Rattle.answers.specs.Listing.{ticOf}
 use Rattle.judge.specs.Records.{recordsTo}
-use Rattle.judge.specs.declared.answer.Answer.the-variants.{Answered}
-use Rattle.judge.specs.declared.answer.CallCheck.{CallCheck}
-use Rattle.judge.specs.declared.answer.Summary.{Summary}
+use Rattle.answers.specs.declared.answer.Answer.the-variants.{Answered}
+use Rattle.answers.specs.declared.answer.CallCheck.{CallCheck}
+use Rattle.answers.specs.declared.answer.Summary.{Summary}
 use Rattle.promises.specs.WorkedCall.{Passing, linePieces, lineWith, headerPieces, headerWith, footerPieces, footerWith, rowOf, tifWith}
 
 -- ---- line feeds

@@ -6,10 +6,11 @@ use Rattle.lines.specs.Columns.{cols}
 use Rattle.tif.specs.Body.{lineAt}
 use Rattle.tif.specs.Name.{nameReceiver, nameStem}
 use Rattle.tic.specs.Text.{Tic}
-use Rattle.judge.specs.Call.{Call, wordsJudged, summaryOf, headOf, sumsOf}
-use Rattle.judge.specs.Card.{codeOf}
-use Rattle.judge.specs.Listing.{numberAt, refusedPlace}
-use Rattle.judge.specs.declared.answer.Summary.{Summary}
+use Rattle.answers.specs.Told.{headOf, sumsOf}
+use Rattle.judge.specs.Call.{Call, wordsJudged, summaryOf}
+use Rattle.answers.specs.Card.{codeOf}
+use Rattle.answers.specs.Listing.{numberAt, refusedPlace}
+use Rattle.answers.specs.declared.answer.Summary.{Summary}
 
 -- which line of the file refusal j is, both counted from 0
 abbrev pub refusalOf : Call → ℕ → ℕ

@@ -1,5 +1,5 @@
 -- The TIC of a call that E1 to E6 let pass is the text of sound values. Assumes nothing.
-use mathlib.Core.Path.{_≡_, refl, sym, ap, ap₂, _∙_}
+use mathlib.Core.Path.{_≡_, refl, sym, ap, _∙_}
 use mathlib.Core.Bool.{Bool, true, false, not, _&&_, _||_, cond, false≢true}
 use mathlib.Core.List.{List, [], _∷_, _++_}
 use Prim.Native.Nat.{ℕ, zero, suc, _+_, _-_, _*_, _^_, _≤_, _<_}
@@ -8,9 +8,10 @@ use lib.ListN.{length, getD, take, drop}
 use lib.Seq.{length-take-le, getD-take}
 use lib.Dec.{eqb, leb, ltb}
 use borrow.Author.Tests.{eq-eqb, eqb-false, lt-ltb, le-ltb, le-leb}
-use Rattle.lines.specs.Below.{sumBelow, joinBelow, tableBelow}
+use Rattle.lines.specs.Below.{sumBelow, tableBelow}
 use Rattle.lines.specs.BelowLaws.{table-at}
-use Rattle.lines.specs.BoolLaws.{or-true-left, or-true-right, and-right}
+use Rattle.lines.specs.BelowSame.{join-same, sum-same}
+use Rattle.lines.specs.BoolLaws.{or-true-right, and-right}
 use Rattle.lines.specs.Class.{allBytes, allOf}
 use Rattle.lines.specs.ClassLaws.{all-of-part}
 use Rattle.lines.specs.FirstOf.{firstOf}
@@ -28,7 +29,6 @@ use Rattle.tif.specs.declared.acceptance.Acceptance.{Acceptance}
 use Rattle.tif.specs.declared.acceptance.Whole.{Whole}
 use Rattle.tif.specs.declared.side.Side.{Side}
 use Rattle.tic.specs.FeedLaws.{feed-free}
-use Rattle.tic.specs.FileLaws.{join-same, sum-same}
 use Rattle.tic.specs.Pieces.{joined}
 use Rattle.tic.specs.Reading.{acceptanceFits, headAgrees, sumsFit}
 use Rattle.tic.specs.Sound.{notFeed, lineSound, codeSound, amountOf, Sound}
@@ -42,14 +42,15 @@ use Rattle.verdicts.specs.declared.verdict.Verdict.{Verdict}
 use Rattle.judging.specs.Judging.{verdictAt, wordAt, wordsOf}
 use Rattle.judging.specs.Sums.{isAccepted, isCounted, countOf, totalOf}
 use Rattle.judging.specs.SumsLaws.{counts-add, total-within}
-use Rattle.judge.specs.Answer.{answerCode}
-use Rattle.judge.specs.Call.{Call, checkOf, fileOf, judgingOf, linesOf, linesToJudge, wordsJudged, judgedAnswer, fileAnswer, summaryOf, headOf, sumsOf, ticOfCall}
-use Rattle.judge.specs.Card.{isCard, codeOf}
+use Rattle.answers.specs.Answer.{answerCode}
+use Rattle.answers.specs.Told.{judgedAnswer, fileAnswer, headOf, sumsOf}
+use Rattle.judge.specs.Call.{Call, checkOf, fileOf, judgingOf, linesOf, linesToJudge, wordsJudged, summaryOf, ticOfCall}
+use Rattle.answers.specs.Card.{isCard, codeOf}
 use Rattle.judge.specs.CoreLaws.{words-length}
-use Rattle.judge.specs.Listing.{numberAt, refusedAt, refusedPlace, Worded}
+use Rattle.answers.specs.Listing.{numberAt, refusedAt, Worded}
 use Rattle.judge.specs.SoundLaws.{CallSound, check-shows, judged, list-ready}
-use Rattle.judge.specs.declared.answer.CallCheck.{CallCheck}
-use Rattle.judge.specs.declared.answer.FileAnswer.{FileAnswer}
+use Rattle.answers.specs.declared.answer.CallCheck.{CallCheck}
+use Rattle.answers.specs.declared.answer.FileAnswer.{FileAnswer}
 use Rattle.promises.specs.RefusalsLaws.{placed, refused-total, none-accepted}
 use Rattle.promises.specs.Written.{refusalOf, lineShown, codeShown, valuesOfTic}
 

@@ -26,14 +26,15 @@ use Rattle.verdicts.specs.declared.record.Record.{Record}
 use Rattle.verdicts.specs.declared.verdict.Verdict.the-variants.{NotCovered}
 use Rattle.judging.specs.Judging.{wordsOf}
 use Rattle.judging.specs.Sums.{countOf, totalOf}
-use Rattle.judge.specs.Call.{Call, refusedFile, wordsJudged, summaryOf, answerOf, isAnswered, marksOf, outOf, recordsOf, Judged}
-use Rattle.judge.specs.Card.{isCard}
-use Rattle.judge.specs.Fault.{checkLent, checkCall}
-use Rattle.judge.specs.declared.answer.Answer.{Answer}
-use Rattle.judge.specs.declared.answer.Answer.the-variants.{Refused, Answered}
-use Rattle.judge.specs.declared.answer.CallFault.the-variants.{Room}
-use Rattle.judge.specs.declared.answer.FileAnswer.{FileAnswer}
-use Rattle.judge.specs.declared.answer.FileAnswer.the-variants.{Accepted, PartlyAccepted, AlreadyReceived, CountsDiffer, TotalDiffers, OutOfForm}
+use Rattle.answers.specs.Told.{refusedFile}
+use Rattle.judge.specs.Call.{Call, wordsJudged, summaryOf, answerOf, isAnswered, marksOf, outOf, recordsOf, Judged}
+use Rattle.answers.specs.Card.{isCard}
+use Rattle.answers.specs.Fault.{checkLent, checkCall}
+use Rattle.answers.specs.declared.answer.Answer.{Answer}
+use Rattle.answers.specs.declared.answer.Answer.the-variants.{Refused, Answered}
+use Rattle.answers.specs.declared.answer.CallFault.the-variants.{Room}
+use Rattle.answers.specs.declared.answer.FileAnswer.{FileAnswer}
+use Rattle.answers.specs.declared.answer.FileAnswer.the-variants.{Accepted, PartlyAccepted, AlreadyReceived, CountsDiffer, TotalDiffers, OutOfForm}
 use Rattle.promises.specs.WorkedCall.{workedName, workedCard, workedCall}
 use Rattle.promises.specs.WorkedFile.{workedSummary, recordWith, worked-answer, worked-out}
 

@@ -10,6 +10,7 @@ use borrow.Author.Tests.{eq-eqb}
 use Rattle.lines.specs.Below.{allBelow, joinBelow, sumBelow}
 use Rattle.lines.specs.BelowLaws.{all-at}
 use Rattle.lines.specs.BoolLaws.{and-left, and-right}
+use Rattle.lines.specs.BelowSame.{join-same, sum-same}
 use Rattle.lines.specs.Class.{allBytes}
 use Rattle.lines.specs.Columns.{col}
 use Rattle.lines.specs.Number.{allDigits, numberOf}
@@ -22,7 +23,7 @@ use Rattle.tif.specs.PartLaws.{part-part, take-short}
 use Rattle.tic.specs.ByteLaws.{bytes-part}
 use Rattle.tic.specs.Columns.{ticLayout, tifReceiver, receivedStem, receptionMoment, acceptedSumField, shownPart, codePart}
 use Rattle.tic.specs.FeedLaws.{feed-free}
-use Rattle.tic.specs.FileLaws.{join-same, sum-same, file-joined}
+use Rattle.tic.specs.FileLaws.{file-joined}
 use Rattle.tic.specs.Readable.{Readable, read-shows}
 use Rattle.tic.specs.Reading.{rowAt, ticHeader, ticFooter, ticLines, headOf, sumsOf, headAgrees, sumsFit, listedFormed, listedFormedAt, linesFormed, footerFormed, listedAmount, listedSum, readTic}
 use Rattle.tic.specs.ReadingLaws.{Listing, lined-at, footer-shows}

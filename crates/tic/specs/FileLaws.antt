@@ -1,5 +1,5 @@
 -- A file of fixed-width rows is its rows joined, and rows of the right widths joined are such a file. Assumes nothing.
-use mathlib.Core.Path.{_≡_, refl, sym, ap, _∙_}
+use mathlib.Core.Path.{_≡_, sym, ap, _∙_}
 use mathlib.Core.Bool.{true, _&&_}
 use mathlib.Core.List.{List, [], _++_, append-nil, append-assoc}
 use Prim.Native.Nat.{ℕ, zero, suc, _+_, _-_, _*_, _≤_, _<_}
@@ -7,7 +7,7 @@ use native.Mathlib.Nat.{not-suc-le-zero, zero-mul, suc-mul, add-zero, mul-div-ca
 use native.Mathlib.Omega.{arith}
 use lib.ListN.{length, take, drop, length-append, length-drop, take-append-drop}
 use lib.Seq.{take-add, take-all, take-at, drop-at}
-use Rattle.lines.specs.Below.{allBelow, joinBelow, sumBelow}
+use Rattle.lines.specs.Below.{allBelow, joinBelow}
 use Rattle.lines.specs.BelowLaws.{all-each, below-suc}
 use Rattle.lines.specs.BoolLaws.{and-true}
 use Rattle.lines.specs.Rows.{mostLines, linePlace, fileLength, headerOf, lineOf, footerOf, linesFor, oneFeed, lineFeedAt, feedsStand, framedLines}
@@ -15,18 +15,6 @@ use Rattle.lines.specs.RowsLaws.{fits-yes, framed-yes}
 use Rattle.lines.specs.declared.rows.Layout.{Layout}
 use Rattle.lines.specs.declared.rows.Lines.the-variants.{Of}
 use Rattle.tic.specs.TextLaws.{join-even}
-
--- texts that are equal one by one, joined
-pub join-same : (f g : ℕ → List ℕ) (n : ℕ) → ((i : ℕ) → i < n → f i ≡ g i) → joinBelow n f ≡ joinBelow n g
-unfolding joinBelow
-join-same f g zero e = refl
-join-same f g (suc n) e = rw (join-same f g n (λ i h. e i (omega arith)), e n (omega arith))
-
--- sums of numbers that are equal one by one
-pub sum-same : (f g : ℕ → ℕ) (n : ℕ) → ((i : ℕ) → i < n → f i ≡ g i) → sumBelow n f ≡ sumBelow n g
-unfolding sumBelow
-sum-same f g zero e = refl
-sum-same f g (suc n) e = rw (sum-same f g n (λ i h. e i (omega arith)), e n (omega arith))
 
 -- what is joined before k, then what stands at k, then the rest
 join-split : (f : ℕ → List ℕ) (n k : ℕ) → k < n → (rest : List ℕ) × (joinBelow n f ≡ joinBelow k f ++ (f k ++ rest))

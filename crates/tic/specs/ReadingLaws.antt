@@ -1,6 +1,6 @@
 -- What the tests of a TIC show. Assumes nothing.
 use mathlib.Core.Path.{_≡_, refl, ap, _∙_}
-use mathlib.Core.Bool.{true, not}
+use mathlib.Core.Bool.{true}
 use mathlib.Core.List.{List}
 use Prim.Native.Nat.{ℕ, _*_, _≤_, _<_}
 use native.Mathlib.Omega.{arith}
@@ -11,12 +11,12 @@ use Rattle.lines.specs.BelowLaws.{all-at, sum-le}
 use Rattle.lines.specs.Class.{allOf}
 use Rattle.lines.specs.Columns.{col}
 use Rattle.lines.specs.Number.{allDigits}
-use Rattle.lines.specs.NumberLaws.{number-small}
 use Rattle.lines.specs.FirstOf.{Picks, picked, here, past}
 use Rattle.lines.specs.Rows.{mostLines, fileLength, framedLines}
 use Rattle.lines.specs.declared.class.Class.the-variants.{DigitOrCapital, Only}
 use Rattle.lines.specs.declared.rows.Lines.the-variants.{Of, OutOfForm}
 use Rattle.passage.specs.Passage.{grossAmount}
+use Rattle.passage.specs.PassageLaws.{gross-small}
 use Rattle.tif.specs.Every.{every-first, every-rest}
 use Rattle.tif.specs.PartLaws.{take-short}
 use Rattle.tic.specs.Columns.{ticLayout, acceptedField, rejectedField, acceptedAgain, rejectedAgain, acceptanceField, codePart, acceptedSumField, rejectedSumField, footerFiller}
@@ -91,7 +91,7 @@ module _ (tic : List ℕ) (n : ℕ) (l : Lined tic n) where
   -- eleven digits
   amount-small : (k : ℕ) → k < n → listedAmount tic k ≤ 99999999999
   unfolding listedAmount
-  amount-small k h = omega (arith, number-small (grossAmount (rowAt tic k)) 11 (take-short 11 (drop 136 (rowAt tic k))) (lined-at k h .amount))
+  amount-small k h = gross-small (rowAt tic k) (lined-at k h .amount)
 
   -- at most 9,999 of them make a sum of fifteen digits
   pub sum-small : (k : ℕ) → k ≤ n → sumBelow k (listedAmount tic) ≤ 99999999999 * k

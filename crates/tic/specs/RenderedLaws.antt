@@ -4,23 +4,23 @@ use mathlib.Core.Bool.{Bool, true, false, cond, _&&_, not, false≢true}
 use mathlib.Core.List.{List}
 use Prim.Native.Nat.{ℕ, _+_, _^_, _≤_, _<_}
 use native.Mathlib.Omega.{arith}
-use lib.ListN.{length, drop}
+use lib.ListN.{length}
 use lib.Dec.{eqb, ltb, lit<}
 use borrow.Author.Tests.{eqb-true, leb-true, ltb-false}
 use Rattle.lines.specs.Below.{sumBelow}
 use Rattle.lines.specs.BelowLaws.{all-each, sum-le}
+use Rattle.lines.specs.BelowSame.{sum-same}
 use Rattle.lines.specs.FirstOf.{past, none, firstOf}
 use Rattle.lines.specs.Number.{numberOf}
-use Rattle.lines.specs.NumberLaws.{number-small}
 use Rattle.lines.specs.Rows.{mostLines, framedLines, oneFeed}
 use Rattle.lines.specs.declared.rows.Lines.the-variants.{Of}
 use Rattle.passage.specs.Passage.{grossAmount}
+use Rattle.passage.specs.PassageLaws.{gross-small}
 use Rattle.tif.specs.Every.{every-first, every-rest}
 use Rattle.tif.specs.NameLaws.{stem-shows}
-use Rattle.tif.specs.PartLaws.{take-short}
 use Rattle.tif.specs.Side.{isSided}
 use Rattle.tic.specs.Columns.{ticLayout}
-use Rattle.tic.specs.FileLaws.{sum-same, joined-header, joined-line, joined-footer, joined-framed}
+use Rattle.tic.specs.FileLaws.{joined-header, joined-line, joined-footer, joined-framed}
 use Rattle.tic.specs.FreeLaws.{actor-shows, moment-shows}
 use Rattle.tic.specs.ReadRows.{HeaderValues, LineShown, line-shows, code-shows, text-sound, head-back, text-counts, header-feed, amount-back, row-formed, row-feed, foot-formed, sums-back, foot-feed}
 use Rattle.tic.specs.Reading.{acceptanceFits, headAgrees, headerSound, headOf, countsAgree, rowAt, listedFormed, listedFormedAt, linesFormed, footerFormed, sumsOf, sumsFit, listedAmount, listedSum, ticHeader, ticFooter, valuesOf, readTic}
@@ -65,7 +65,7 @@ module _ (v : Tic) (s : Sound v) where
   -- ---- how large the sums are
   amount-small : (k : ℕ) → k < listedCount v → amountOf v k ≤ 99999999999
   unfolding amountOf
-  amount-small k h = omega (arith, number-small (grossAmount (v .line k)) 11 (take-short 11 (drop 136 (v .line k))) (shown k h .amount))
+  amount-small k h = gross-small (v .line k) (shown k h .amount)
 
   rejected-small : v .sums .rejected .0 < 10 ^ 15
   rejected-small =

@@ -4,14 +4,11 @@ use mathlib.Core.Bool.{Bool, true, false}
 use mathlib.Core.List.{List}
 use Prim.Native.Nat.{ℕ, _*_, _≤_}
 use native.Mathlib.Omega.{arith}
-use lib.ListN.{drop}
 use Rattle.lines.specs.Below.{allBelow, sumBelow}
 use Rattle.lines.specs.BelowLaws.{all-at, sum-le}
-use Rattle.lines.specs.NumberLaws.{number-small}
-use Rattle.passage.specs.Passage.{grossAmount}
+use Rattle.passage.specs.PassageLaws.{gross-small}
 use Rattle.tif.specs.Body.{grossOf, amountIf, lineSound, lineAmount, lineAt, lineSoundAt, amountAt}
 use Rattle.tif.specs.Every.{every-first, every-rest}
-use Rattle.tif.specs.PartLaws.{take-short}
 use Rattle.lines.specs.declared.kinds.Gross.{Gross}
 use Rattle.tif.specs.declared.body.Amount.the-variants.{States, OutOfForm}
 
@@ -39,8 +36,7 @@ amount-is false v g e = let z : _≡_ {A = ℕ} 0 1 = cc in absurd (omega arith)
 -- eleven digits
 pub amount-small : (tif : List ℕ) (k : ℕ) → lineSoundAt tif k ≡ true → amountAt tif k ≤ 99999999999
 unfolding lineSoundAt lineSound amountAt
-amount-small tif k e =
-    omega (arith, number-small (grossAmount (lineAt tif k)) 11 (take-short 11 (drop 136 (lineAt tif k))) (every-first _ _ (every-rest _ _ e)))
+amount-small tif k e = gross-small (lineAt tif k) (every-first _ _ (every-rest _ _ e))
 
 pub sum-small : (tif : List ℕ) (k : ℕ) → allBelow k (lineSoundAt tif) ≡ true → sumBelow k (amountAt tif) ≤ 99999999999 * k
 sum-small tif k e = sum-le (amountAt tif) 99999999999 k (λ i h. amount-small tif i (all-at (lineSoundAt tif) k e i h))

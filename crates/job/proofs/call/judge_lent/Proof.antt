@@ -43,15 +43,15 @@ use denote.Triple.Walked.{says, Stays, stay-none-slice, gave-slice, walkOf, goes
 use denote.Exit.{yes as kept}
 use denote.Signature.{plain}
 use Rattle.verdicts.specs.declared.record.Record.{Record}
-use Rattle.judge.specs.declared.answer.Answer.{Answer}
+use Rattle.answers.specs.declared.answer.Answer.{Answer}
 use Rattle.judge.specs.Call.{Call, callOf, Judged}
 use Rattle.job.specs.Printed.{recordsLent, JudgedLent}
 use Rattle.job.specs.PrintedLaws.{lent-from-judged}
 use Rattle.verdicts.proofs.record.Record as T
 use Rattle.verdicts.proofs.record.Record.Laws as T′
-use Rattle.judge.proofs.answer.Answer as TA
-use Rattle.judge.proofs.answer.Answer.Laws as TA′
-use Rattle.judge.proofs.Local.{Lies, laid, cleared, hidden, lends, back}
+use Rattle.answers.proofs.answer.Answer as TA
+use Rattle.answers.proofs.answer.Answer.Laws as TA′
+use Rattle.judge.proofs.LocalArray.{Lies, laid, cleared, hidden, lends, back}
 use Rattle.job.proofs.call.blank_record as blank
 use Rattle.job.proofs.call.blank_record.Symbol as blank-def
 use Rattle.job.proofs.call.blank_record.Symbol.{name as #blank}

@@ -2,7 +2,7 @@ use native.Mathlib.Omega.{arith}
 use mathlib.Core.List.{[], _∷_}
 use borrow.Author.Needs.{needs}
 use Rattle.lines.specs.SpliceLaws.{put-more}
-use Rattle.judge.specs.Answer.{faultNumber}
+use Rattle.answers.specs.Answer.{faultNumber}
 use Rattle.job.specs.Printed.{decimal, faultText}
 use Rattle.job.proofs.line.put_fault.Statement.{statement}
 use Rattle.job.proofs.line.put_fault.Tie as tie

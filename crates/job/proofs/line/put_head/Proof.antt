@@ -6,7 +6,7 @@ use Rattle.lines.specs.Number.{digitsOf}
 use Rattle.lines.specs.NumberLaws.{digits-length}
 use Rattle.lines.specs.SpliceLaws.{put-more}
 use Rattle.tif.specs.Side.{sideText}
-use Rattle.judge.specs.Answer.{answerCode}
+use Rattle.answers.specs.Answer.{answerCode}
 use Rattle.job.specs.Printed.{headText}
 use Rattle.job.proofs.line.put_head.Statement.{statement}
 use Rattle.job.proofs.line.put_head.Tie as tie

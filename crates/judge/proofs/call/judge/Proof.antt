@@ -43,16 +43,16 @@ use denote.Triple.Walked.{says, Stays, stay-none-slice, gave-slice, walkOf, goes
 use denote.Exit.{yes as kept}
 use denote.Signature.{plain}
 use Rattle.verdicts.specs.declared.record.Record.{Record}
-use Rattle.judge.specs.declared.answer.Answer.{Answer}
+use Rattle.answers.specs.declared.answer.Answer.{Answer}
 use Rattle.judge.specs.Records.{LineKnown, recordsTo}
 use Rattle.judge.specs.Call.{Call, callOf, linesToRecord, Judged}
 use Rattle.judge.specs.Core.{CallTried}
 use Rattle.judge.specs.CallLaws.{judged-from-words, room-to-fill}
 use Rattle.verdicts.proofs.record.Record as T
-use Rattle.judge.proofs.answer.Answer as TA
-use Rattle.judge.proofs.answer.Answer.Laws as TA′
-use Rattle.judge.proofs.Big.{big-lit}
-use Rattle.judge.proofs.Local.{Lies, laid, cleared, hidden, lends, back, shows, shown}
+use Rattle.answers.proofs.answer.Answer as TA
+use Rattle.answers.proofs.answer.Answer.Laws as TA′
+use Rattle.judge.proofs.BigConstant.{big-lit}
+use Rattle.judge.proofs.LocalArray.{Lies, laid, cleared, hidden, lends, back, shows, shown}
 use Rattle.judge.proofs.core.try_call as core
 use Rattle.judge.proofs.core.try_call.Symbol as core-def
 use Rattle.judge.proofs.core.try_call.Symbol.{name as #core}

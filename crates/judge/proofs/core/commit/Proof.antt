@@ -3,7 +3,7 @@ use mathlib.Core.Path.{ap₂, _∙_}
 use mathlib.Core.List.{List}
 use borrow.Author.Needs.{needs}
 use Rattle.lines.specs.SpliceLaws.{splice-whole}
-use Rattle.judge.specs.Listing.{ticOf}
+use Rattle.answers.specs.Listing.{ticOf}
 use Rattle.lines.specs.Splice.{splice}
 use Rattle.tic.specs.Text.{ticText}
 use Rattle.tic.specs.declared.values.TicHead.{TicHead}

@@ -2,7 +2,7 @@ use mathlib.Core.Path.{_≡_}
 use borrow.Author.Needs.{needs}
 use Rattle.judge.specs.AnswerLaws.{refused-call}
 use Rattle.judge.specs.Call.{Call, callOf, checkOf}
-use Rattle.judge.specs.declared.answer.CallCheck.{CallCheck}
+use Rattle.answers.specs.declared.answer.CallCheck.{CallCheck}
 use Rattle.judge.proofs.core.try_call.Statement.{statement}
 use Rattle.judge.proofs.core.try_call.Tie as tie
 

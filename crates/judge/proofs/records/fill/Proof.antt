@@ -51,7 +51,7 @@ use Rattle.verdicts.specs.declared.record.Record.{Record}
 use Rattle.judge.specs.Records.{LineKnown, recordAt, recordsTo}
 use Rattle.verdicts.proofs.record.Record as T
 use Rattle.verdicts.proofs.record.Record.Laws as T′
-use Rattle.judge.proofs.Lines.{record-size, one-more, so-far, so-far-none, so-far-length, so-far-more}
+use Rattle.judge.proofs.RecordsSoFar.{record-size, one-more, so-far, so-far-none, so-far-length, so-far-more}
 use Rattle.judge.proofs.records.record_at as record-at
 use Rattle.judge.proofs.records.record_at.Symbol as record-at-def
 use Rattle.judge.proofs.records.record_at.Symbol.{name as #record-at}
