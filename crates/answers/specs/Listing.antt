@@ -11,9 +11,9 @@ use Rattle.passage.specs.Passage.{lineWidth}
 use Rattle.tif.specs.Body.{lineAt}
 use Rattle.tif.specs.Columns.{tifLayout}
 use Rattle.tif.specs.Name.{nameReceiver, nameStem}
-use Rattle.tic.specs.Text.{Tic, listedText}
-use Rattle.tic.specs.declared.values.TicHead.{TicHead}
-use Rattle.tic.specs.declared.values.TicSums.{TicSums}
+use Rattle.tic_text.specs.Text.{Tic, listedText}
+use Rattle.tic_text.specs.declared.values.TicHead.{TicHead}
+use Rattle.tic_text.specs.declared.values.TicSums.{TicSums}
 use Rattle.verdicts.specs.Verdict.{wordNumber}
 use Rattle.judging.specs.Sums.{isCounted, oneAt}
 use Rattle.answers.specs.Card.{codeOf, verdictsInUse}

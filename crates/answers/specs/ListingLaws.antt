@@ -11,8 +11,8 @@ use borrow.Author.Tests.{eq-eqb, ne-eqb}
 use Rattle.lines.specs.Below.{someBelow, sumBelow, joinBelow}
 use Rattle.lines.specs.BelowLaws.{some-more, some-zero, first-hit, sum-suc, sum-zero, join-suc, join-within}
 use Rattle.lines.specs.BoolLaws.{and-true, and-false-left, and-false-right}
-use Rattle.tic.specs.Text.{Tic, listedText, listedAt}
-use Rattle.tic.specs.TextLaws.{part-length, listed-length}
+use Rattle.tic_text.specs.Text.{Tic, listedText, listedAt}
+use Rattle.tic_text.specs.TextLaws.{part-length, listed-length}
 use Rattle.lines.specs.RowsLaws.{line-length}
 use Rattle.passage.specs.Passage.{lineWidth}
 use Rattle.tif.specs.Body.{lineAt}

@@ -7,10 +7,10 @@ use lib.ListN.{length, length-append}
 use Rattle.lines.specs.Below.{joinBelow}
 use Rattle.lines.specs.Splice.{Put}
 use Rattle.lines.specs.SpliceLaws.{put-more, put-length}
-use Rattle.tic.specs.Text.{headerText, footerText, listedAt, ticText}
-use Rattle.tic.specs.TextLaws.{header-length, part-length}
-use Rattle.tic.specs.declared.values.TicHead.{TicHead}
-use Rattle.tic.specs.declared.values.TicSums.{TicSums}
+use Rattle.tic_text.specs.Text.{headerText, footerText, listedAt, ticText}
+use Rattle.tic_text.specs.TextLaws.{header-length, part-length}
+use Rattle.tic_text.specs.declared.values.TicHead.{TicHead}
+use Rattle.tic_text.specs.declared.values.TicSums.{TicSums}
 use Rattle.tif.specs.Name.{nameReceiver, nameStem}
 use Rattle.answers.specs.Listing.{listedLines, refusedBefore, ticOf, TicRoom}
 use Rattle.answers.specs.ListingLaws.{lines-length, listed-all}

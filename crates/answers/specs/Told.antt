@@ -8,8 +8,8 @@ use Rattle.tif.specs.Body.{grossOf}
 use Rattle.tif.specs.Side.{sideOf}
 use Rattle.tif.specs.declared.acceptance.Acceptance.{Acceptance}
 use Rattle.tic.specs.Rewriting.{ticLength}
-use Rattle.tic.specs.declared.values.TicHead.{TicHead}
-use Rattle.tic.specs.declared.values.TicSums.{TicSums}
+use Rattle.tic_text.specs.declared.values.TicHead.{TicHead}
+use Rattle.tic_text.specs.declared.values.TicSums.{TicSums}
 use Rattle.judging.specs.Sums.{countOf, totalOf}
 use Rattle.answers.specs.Answer.{answerCode}
 use Rattle.answers.specs.declared.answer.FileAnswer.{FileAnswer}

@@ -1,10 +1,10 @@
 use crate::card::code_of;
 use lines::field;
-use tic::TicHead;
-use tic::TicSums;
-use tic::put_footer;
-use tic::put_header;
-use tic::put_listed;
+use tic_text::TicHead;
+use tic_text::TicSums;
+use tic_text::put_footer;
+use tic_text::put_header;
+use tic_text::put_listed;
 use tif::NAME_RECEIVER;
 use tif::NAME_STEM;
 use tif::tif_line;
@@ -13,7 +13,7 @@ ghost use Prim.Native.Nat.{_+_, _*_, _≤_, _<_};
 ghost use lib.ListN.{length};
 ghost use Rattle.lines.specs.Below.{joinBelow};
 ghost use Rattle.lines.specs.Splice.{Put};
-ghost use Rattle.tic.specs.Text.{listedAt, ticText};
+ghost use Rattle.tic_text.specs.Text.{listedAt, ticText};
 ghost use Rattle.answers.specs.Listing.{numberAt, refusedAt, refusedBefore, refusedText, ticOf, listedLines, Worded, ListRoom, TicRoom};
 
 // The paper's number of the verdict on line k.

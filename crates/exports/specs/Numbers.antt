@@ -2,9 +2,9 @@
 use Prim.Native.Nat.{ℕ, _+_}
 use Rattle.tif.specs.declared.side.Side.{Side}
 use Rattle.tif.specs.declared.side.Side.the-variants.{Credit, Debit, Neither}
-use Rattle.tic.specs.Reading.{faultNumber}
-use Rattle.tic.specs.declared.values.TicReading.{TicReading}
-use Rattle.tic.specs.declared.values.TicReading.the-variants.{Unreadable, Values}
+use Rattle.tic_parts.specs.Reading.{faultNumber}
+use Rattle.tic_text.specs.declared.values.TicReading.{TicReading}
+use Rattle.tic_text.specs.declared.values.TicReading.the-variants.{Unreadable, Values}
 use Rattle.tic.specs.declared.rewriting.Rewritten.{Rewritten}
 use Rattle.tic.specs.declared.rewriting.Rewritten.the-variants.{TooShort, Written}
 use Rattle.answers.specs.Answer as call

@@ -3,12 +3,12 @@ use mathlib.Core.Path.{_≡_}
 use mathlib.Core.List.{List, [], _∷_}
 use Prim.Native.Nat.{ℕ}
 use lib.ListN.{length}
-use Rattle.tic.specs.Reading.{readTic}
+use Rattle.tic_parts.specs.Reading.{readTic}
 use Rattle.tic.specs.Listed.{listedLine, listedNumber}
 use Rattle.tic.specs.Rewriting.{rewrittenFor, outputOf}
-use Rattle.tic.specs.declared.values.TicReading.{TicReading}
-use Rattle.tic.specs.declared.values.TicReading.the-variants.{Values}
-use Rattle.tic.specs.declared.values.TicValues.{TicValues}
+use Rattle.tic_text.specs.declared.values.TicReading.{TicReading}
+use Rattle.tic_text.specs.declared.values.TicReading.the-variants.{Values}
+use Rattle.tic_text.specs.declared.values.TicValues.{TicValues}
 use Rattle.tic.specs.declared.listed.Listed.{Listed}
 use Rattle.tic.specs.declared.listed.Listed.the-variants.{At, NoSuchLine}
 use Rattle.tic.specs.declared.rewriting.Rewritten.{Rewritten}

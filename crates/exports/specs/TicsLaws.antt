@@ -4,12 +4,12 @@ use mathlib.Core.List.{List}
 use Prim.Native.Nat.{ℕ, _<_}
 use native.Mathlib.Omega.{arith}
 use lib.ListN.{length}
-use Rattle.tic.specs.Reading.{faultNumber, readTic}
+use Rattle.tic_parts.specs.Reading.{faultNumber, readTic}
 use Rattle.tic.specs.Listed.{listedLine, listedNumber}
 use Rattle.tic.specs.Rewriting.{Rewrites, rewrittenFor}
-use Rattle.tic.specs.declared.values.TicFault.{TicFault}
-use Rattle.tic.specs.declared.values.TicFault.the-variants.{Framing, Header, Counts, ListedLine, Footer}
-use Rattle.tic.specs.declared.values.TicReading.{TicReading}
+use Rattle.tic_text.specs.declared.values.TicFault.{TicFault}
+use Rattle.tic_text.specs.declared.values.TicFault.the-variants.{Framing, Header, Counts, ListedLine, Footer}
+use Rattle.tic_text.specs.declared.values.TicReading.{TicReading}
 use Rattle.tic.specs.declared.listed.Listed.{Listed}
 use Rattle.tic.specs.declared.rewriting.Rewritten.{Rewritten}
 use Rattle.exports.specs.Numbers.{readingNumber, rewritingNumber}

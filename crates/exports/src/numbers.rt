@@ -1,10 +1,10 @@
 use answers::CallFault;
-use tic::TicFault;
 use tic::fault_number;
+use tic_text::TicFault;
 use tif::Side;
 ghost use mathlib.Core.Path.{_≡_};
 ghost use Rattle.answers.specs.Answer as call;
-ghost use Rattle.tic.specs.Reading.{faultNumber};
+ghost use Rattle.tic_parts.specs.Reading.{faultNumber};
 ghost use Rattle.exports.specs.Numbers.{sideNumber};
 
 pub fn side_number(side: Side) -> u64

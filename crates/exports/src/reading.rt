@@ -1,10 +1,10 @@
 use crate::numbers::side_number;
 use crate::numbers::tic_fault_number;
 use tic::Listed;
-use tic::TicReading;
-use tic::TicValues;
 use tic::listed_line;
 use tic::read_tic;
+use tic_text::TicReading;
+use tic_text::TicValues;
 ghost use mathlib.Core.Path.{_≡_};
 ghost use Rattle.exports.specs.Tics.{valuesTold, TicRead, LineListed};
 

@@ -9,7 +9,7 @@ use answers::answer_code;
 use answers::fault_number;
 use lines::put_digits;
 use lines::put_run;
-use tic::put_side;
+use tic_text::put_side;
 ghost use mathlib.Core.Path.{_≡_};
 ghost use Prim.Native.Nat.{_+_, _≤_};
 ghost use lib.ListN.{length};

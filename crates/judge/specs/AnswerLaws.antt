@@ -10,7 +10,7 @@ use borrow.Author.Tests.{ltb-false}
 use Rattle.lines.specs.BoolLaws.{or-none-right}
 use Rattle.lines.specs.Splice.{splice}
 use Rattle.lines.specs.SpliceLaws.{splice-zero}
-use Rattle.tic.specs.Text.{ticText}
+use Rattle.tic_text.specs.Text.{ticText}
 use Rattle.answers.specs.Told.{tooSmall}
 use Rattle.judge.specs.Call.{Call, checkOf, wordsJudged, marksJudged, summaryOf, ticOfCall, answerOf, marksOf, outOf}
 use Rattle.judge.specs.Core.{wordsTried, CallTried}

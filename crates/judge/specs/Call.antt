@@ -9,7 +9,7 @@ use Rattle.tif.specs.Acceptance.{acceptanceOf}
 use Rattle.tif.specs.Name.{nameSender}
 use Rattle.tif.specs.Side.{sideOf}
 use Rattle.tif.specs.declared.acceptance.Acceptance.{Acceptance}
-use Rattle.tic.specs.Text.{Tic, ticText}
+use Rattle.tic_text.specs.Text.{Tic, ticText}
 use Rattle.verdicts.specs.declared.record.Record.{Record}
 use Rattle.judging.specs.Judging.{Judging, judging, marksBefore, wordsOf}
 use Rattle.answers.specs.Fault.{checkCall}

@@ -12,7 +12,7 @@ use Rattle.judging.specs.Judging.{judging, marksBefore, wordsOf}
 use Rattle.judging.specs.Steps.{Given}
 use Rattle.tif.specs.declared.acceptance.Acceptance.{Acceptance}
 use Rattle.tif.specs.declared.acceptance.Whole.{Whole}
-use Rattle.tic.specs.Text.{ticText}
+use Rattle.tic_text.specs.Text.{ticText}
 use Rattle.answers.specs.Told.{headOf, sumsOf, tooSmall}
 use Rattle.judge.specs.Call.{Call, checkOf, fileOf, wordsJudged, answerSound, answerOf, marksOf, outOf, linesToRecord}
 use Rattle.answers.specs.Card.{verdictsInUse}

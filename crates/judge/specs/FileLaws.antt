@@ -12,7 +12,7 @@ use borrow.Author.Tests.{ltb-false}
 use Rattle.lines.specs.BoolLaws.{or-none-left}
 use Rattle.lines.specs.Splice.{splice}
 use Rattle.lines.specs.SpliceLaws.{splice-zero, splice-length}
-use Rattle.tic.specs.Text.{ticText}
+use Rattle.tic_text.specs.Text.{ticText}
 use Rattle.tif.specs.declared.acceptance.Acceptance.{Acceptance}
 use Rattle.tif.specs.declared.acceptance.Whole.{Whole}
 use Rattle.debits.specs.CreditsLaws.{after-length}

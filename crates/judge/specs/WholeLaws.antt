@@ -11,9 +11,9 @@ use Rattle.lines.specs.Below.{sumBelow, tableBelow}
 use Rattle.lines.specs.BoolLaws.{or-none-left}
 use Rattle.lines.specs.Splice.{splice, Put}
 use Rattle.lines.specs.SpliceLaws.{splice-nil}
-use Rattle.tic.specs.Text.{Tic, ticText}
-use Rattle.tic.specs.declared.values.TicHead.{TicHead}
-use Rattle.tic.specs.declared.values.TicSums.{TicSums}
+use Rattle.tic_text.specs.Text.{Tic, ticText}
+use Rattle.tic_text.specs.declared.values.TicHead.{TicHead}
+use Rattle.tic_text.specs.declared.values.TicSums.{TicSums}
 use Rattle.debits.specs.Credits.{marksAfter}
 use Rattle.tif.specs.declared.acceptance.Acceptance.{Acceptance}
 use Rattle.judging.specs.Judging.{wordsOf}

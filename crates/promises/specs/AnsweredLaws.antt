@@ -5,7 +5,7 @@ use Prim.Native.Nat.{ℕ}
 use lib.ListN.{length, take, drop}
 use lib.Seq.{take-at}
 use Rattle.lines.specs.SpliceLaws.{splice-zero}
-use Rattle.tic.specs.Text.{ticText}
+use Rattle.tic_text.specs.Text.{ticText}
 use Rattle.verdicts.specs.declared.record.Record.{Record}
 use Rattle.judge.specs.Call.{Call, marksJudged, ticOfCall, marksOf, outOf, Judged}
 use Rattle.answers.specs.declared.answer.Answer.the-variants.{Answered}

@@ -15,17 +15,17 @@ use Rattle.tif.specs.Footer.{totalOf}
 use Rattle.tif.specs.declared.acceptance.Acceptance.{Acceptance}
 use Rattle.tif.specs.declared.acceptance.Whole.{Whole}
 use Rattle.tic.specs.Listed.{listedLine, shownLine, shownCode}
-use Rattle.tic.specs.Reading.{readTic}
+use Rattle.tic_parts.specs.Reading.{readTic}
 use Rattle.tic.specs.ReadThenWrite.{read-then-write}
 use Rattle.tic.specs.RenderedIsAccepted.{rendered-is-accepted}
 use Rattle.tic.specs.Rewriting.{Rewrites}
 use Rattle.tic.specs.Sound.{Sound, numbersOf}
-use Rattle.tic.specs.Text.{ticText}
+use Rattle.tic_text.specs.Text.{ticText}
 use Rattle.tic.specs.WriteThenRead.{write-then-read, no-other}
 use Rattle.tic.specs.declared.listed.Listed.the-variants.{NoSuchLine}
 use Rattle.tic.specs.declared.rewriting.Rewritten.{Rewritten}
 use Rattle.tic.specs.declared.rewriting.Rewritten.the-variants.{Written}
-use Rattle.tic.specs.declared.values.TicReading.the-variants.{Values}
+use Rattle.tic_text.specs.declared.values.TicReading.the-variants.{Values}
 use Rattle.verdicts.specs.declared.record.Record.{Record}
 use Rattle.verdicts.specs.Record.{recordOf}
 use Rattle.verdicts.specs.Verdict.{verdictNumber}

@@ -11,7 +11,7 @@ use Rattle.lines.specs.Splice.{splice}
 use Rattle.book.specs.Layout.{width, agreements, bodyPlace}
 use Rattle.book.specs.Lease.{SameButLeases}
 use Rattle.book.specs.LeaseLaws.{same-sound}
-use Rattle.tic.specs.Text.{Tic, ticText}
+use Rattle.tic_text.specs.Text.{Tic, ticText}
 use Rattle.verdicts.specs.declared.record.Record.{Record}
 use Rattle.judging.specs.Judging.{verdictAt}
 use Rattle.answers.specs.Told.{summaryFor, headOf, sumsOf}

@@ -33,9 +33,9 @@ use Rattle.tif.specs.declared.acceptance.Acceptance.{Acceptance}
 use Rattle.tif.specs.declared.side.Side.the-variants.{Debit}
 use Rattle.tic.specs.DigitLaws.{digits-all, number-digits}
 use Rattle.tic.specs.FileLaws.{joined-length, joined-header, joined-line, joined-footer, joined-framed}
-use Rattle.tic.specs.Pieces.{joined}
+use Rattle.tic_text.specs.Pieces.{joined}
 use Rattle.tic.specs.Sound.{notFeed}
-use Rattle.tic.specs.Text.{zeros, blanks}
+use Rattle.tic_text.specs.Text.{zeros, blanks}
 use Rattle.promises.specs.WorkedCall.{workedName, lineWith, headerWith, footerWith, firstPassing}
 use Rattle.promises.specs.WorkedLaws.{line-feed, header-feed, footer-feed, header-long, footer-long, file-by}
 

@@ -27,9 +27,9 @@ use Rattle.debits.specs.Taking.{agrees, unmarked, freeFor, placeTaken, taken}
 use Rattle.debits.specs.Counting.{oneIf, countBelow}
 use Rattle.debits.specs.Credits.{marksAfter, takenAt, creditAccepted, creditRefused}
 use Rattle.debits.specs.Worked.{debit, credit, outcome}
-use Rattle.tic.specs.Pieces.{joined}
-use Rattle.tic.specs.Text.{zeros, blanks, headerText}
-use Rattle.tic.specs.Worked.{workedReceiver, workedStem, workedMoment, workedHead, workedHeader}
+use Rattle.tic_text.specs.Pieces.{joined}
+use Rattle.tic_text.specs.Text.{zeros, blanks, headerText}
+use Rattle.tic_text.specs.Worked.{workedReceiver, workedStem, workedMoment, workedHead, workedHeader}
 
 -- an answer: yes or no, what covers a passage, how many of some credits are accepted and how many are L8, or a text
 pub data Answer : Type 0 where

@@ -11,8 +11,8 @@ use Rattle.tif.specs.Side.{sideText}
 use Rattle.tif.specs.Worked.{nameOf}
 use Rattle.tif.specs.declared.side.Side.{Side}
 use Rattle.tif.specs.declared.side.Side.the-variants.{Debit}
-use Rattle.tic.specs.Pieces.{joined}
-use Rattle.tic.specs.Text.{zeros, blanks, lineFeed}
+use Rattle.tic_text.specs.Pieces.{joined}
+use Rattle.tic_text.specs.Text.{zeros, blanks, lineFeed}
 use Rattle.judge.specs.Call.{Call}
 
 -- ---- who and what

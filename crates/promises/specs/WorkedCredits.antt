@@ -39,9 +39,9 @@ use Rattle.verdicts.specs.Verdict.{wordOf}
 use Rattle.verdicts.specs.declared.verdict.Verdict.the-variants.{Credits, NoDebit}
 use Rattle.judging.specs.Judging.{repeatedAt, coverOn, verdictOn, reachesAt, verdictAt, wordAt, wordsOf}
 use Rattle.judging.specs.Sums.{isAccepted, isCounted, oneAt, amountOf, countOf, totalOf}
-use Rattle.tic.specs.Pieces.{joined}
+use Rattle.tic_text.specs.Pieces.{joined}
 use Rattle.tic.specs.Sound.{notFeed}
-use Rattle.tic.specs.Text.{zeros, blanks}
+use Rattle.tic_text.specs.Text.{zeros, blanks}
 use Rattle.answers.specs.Told.{judgedAnswer}
 use Rattle.judge.specs.Call.{Call, checkOf, fileOf, judgingOf, answerOf, marksOf}
 use Rattle.answers.specs.Card.{isCard}

@@ -46,10 +46,10 @@ use Rattle.verdicts.specs.declared.verdict.Verdict.{Verdict}
 use Rattle.verdicts.specs.declared.verdict.Verdict.the-variants.{Covered, NotCovered}
 use Rattle.judging.specs.Judging.{repeatsAt, repeatedAt, coverOn, verdictOn, reachesAt, verdictAt, wordAt, wordsOf}
 use Rattle.judging.specs.Sums.{isAccepted, isCounted, oneAt, amountOf, countOf, totalOf}
-use Rattle.tic.specs.Pieces.{joined}
+use Rattle.tic_text.specs.Pieces.{joined}
 use Rattle.tic.specs.Sound.{notFeed}
-use Rattle.tic.specs.Text.{zeros, blanks, headerText, listedText, footerText, listedAt, ticText}
-use Rattle.tic.specs.Worked.{workedHeader}
+use Rattle.tic_text.specs.Text.{zeros, blanks, headerText, listedText, footerText, listedAt, ticText}
+use Rattle.tic_text.specs.Worked.{workedHeader}
 use Rattle.answers.specs.Told.{judgedAnswer, summaryFor, headOf, sumsOf}
 use Rattle.judge.specs.Call.{checkOf, fileOf, judgingOf, answerSound, answerOf, marksOf, outOf, recordsOf, Judged}
 use Rattle.answers.specs.Card.{isCard, codeOf}

@@ -25,9 +25,9 @@ use Rattle.verdicts.specs.declared.record.Record.{Record}
 use Rattle.tic.specs.DigitLaws.{digits-all}
 use Rattle.tic.specs.FileLaws.{joined-framed}
 use Rattle.tic.specs.FreeLaws.{FeedFree, with-piece, joined-feed, digits-free, run-free, side-free}
-use Rattle.tic.specs.Pieces.{joined}
+use Rattle.tic_text.specs.Pieces.{joined}
 use Rattle.tic.specs.Sound.{notFeed}
-use Rattle.tic.specs.Text.{zeros, blanks, ticText}
+use Rattle.tic_text.specs.Text.{zeros, blanks, ticText}
 use Rattle.answers.specs.Told.{summaryFor, headOf, sumsOf}
 use Rattle.judge.specs.Call.{Call, checkOf, fileOf, judgingOf, wordsJudged, marksJudged, summaryOf, ticOfCall, answerSound, answerOf, marksOf, outOf, recordsOf}
 use Rattle.answers.specs.Listing.{ticOf}

@@ -5,7 +5,7 @@ use lib.ListN.{take}
 use Rattle.lines.specs.Columns.{cols}
 use Rattle.tif.specs.Body.{lineAt}
 use Rattle.tif.specs.Name.{nameReceiver, nameStem}
-use Rattle.tic.specs.Text.{Tic}
+use Rattle.tic_text.specs.Text.{Tic}
 use Rattle.answers.specs.Told.{headOf, sumsOf}
 use Rattle.judge.specs.Call.{Call, wordsJudged, summaryOf}
 use Rattle.answers.specs.Card.{codeOf}

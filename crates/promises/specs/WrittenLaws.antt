@@ -29,14 +29,14 @@ use Rattle.tif.specs.declared.acceptance.Acceptance.{Acceptance}
 use Rattle.tif.specs.declared.acceptance.Whole.{Whole}
 use Rattle.tif.specs.declared.side.Side.{Side}
 use Rattle.tic.specs.FeedLaws.{feed-free}
-use Rattle.tic.specs.Pieces.{joined}
-use Rattle.tic.specs.Reading.{acceptanceFits, headAgrees, sumsFit}
+use Rattle.tic_text.specs.Pieces.{joined}
+use Rattle.tic_parts.specs.Reading.{acceptanceFits, headAgrees, sumsFit}
 use Rattle.tic.specs.Sound.{notFeed, lineSound, codeSound, amountOf, Sound}
-use Rattle.tic.specs.Text.{lineFeed, headerText, listedText, footerText, listedAt, listedCount, ticText}
+use Rattle.tic_text.specs.Text.{lineFeed, headerText, listedText, footerText, listedAt, listedCount, ticText}
 use Rattle.tic.specs.RenderedLaws.{wide}
-use Rattle.tic.specs.TextLaws.{part-length, tic-length}
-use Rattle.tic.specs.declared.values.TicHead.{TicHead}
-use Rattle.tic.specs.declared.values.TicSums.{TicSums}
+use Rattle.tic_text.specs.TextLaws.{part-length, tic-length}
+use Rattle.tic_text.specs.declared.values.TicHead.{TicHead}
+use Rattle.tic_text.specs.declared.values.TicSums.{TicSums}
 use Rattle.verdicts.specs.Verdict.{verdictNumber, wordOf, wordNumber}
 use Rattle.verdicts.specs.declared.verdict.Verdict.{Verdict}
 use Rattle.judging.specs.Judging.{verdictAt, wordAt, wordsOf}

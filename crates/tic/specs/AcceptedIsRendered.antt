@@ -3,12 +3,12 @@ use mathlib.Core.Path.{_≡_}
 use mathlib.Core.List.{List}
 use Prim.Native.Nat.{ℕ}
 use Rattle.tic.specs.AcceptedLaws.{rendered, sound, numbers}
-use Rattle.tic.specs.Reading.{readTic}
+use Rattle.tic_parts.specs.Reading.{readTic}
 use Rattle.tic.specs.Rewriting.{ticOf}
 use Rattle.tic.specs.Sound.{Sound, numbersOf}
-use Rattle.tic.specs.Text.{ticText}
-use Rattle.tic.specs.declared.values.TicReading.the-variants.{Values}
-use Rattle.tic.specs.declared.values.TicValues.{TicValues}
+use Rattle.tic_text.specs.Text.{ticText}
+use Rattle.tic_text.specs.declared.values.TicReading.the-variants.{Values}
+use Rattle.tic_text.specs.declared.values.TicValues.{TicValues}
 
 pub accepted-is-rendered : (tic : List ℕ) (read : TicValues) → readTic tic ≡ Values read
     → (tic ≡ ticText (ticOf tic)) × Sound (ticOf tic) × (read ≡ numbersOf (ticOf tic))

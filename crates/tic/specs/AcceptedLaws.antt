@@ -21,23 +21,23 @@ use Rattle.tif.specs.Acceptance.{framedCount}
 use Rattle.tif.specs.Every.{Tested, tested, holds}
 use Rattle.tif.specs.PartLaws.{part-part, take-short}
 use Rattle.tic.specs.ByteLaws.{bytes-part}
-use Rattle.tic.specs.Columns.{ticLayout, tifReceiver, receivedStem, receptionMoment, acceptedSumField, shownPart, codePart}
+use Rattle.tic_text.specs.Columns.{ticLayout, tifReceiver, receivedStem, receptionMoment, acceptedSumField, shownPart, codePart}
 use Rattle.tic.specs.FeedLaws.{feed-free}
 use Rattle.tic.specs.FileLaws.{file-joined}
 use Rattle.tic.specs.Readable.{Readable, read-shows}
-use Rattle.tic.specs.Reading.{rowAt, ticHeader, ticFooter, ticLines, headOf, sumsOf, headAgrees, sumsFit, listedFormed, listedFormedAt, linesFormed, footerFormed, listedAmount, listedSum, readTic}
-use Rattle.tic.specs.ReadingLaws.{Listing, lined-at, footer-shows}
+use Rattle.tic_parts.specs.Reading.{rowAt, ticHeader, ticFooter, ticLines, headOf, sumsOf, headAgrees, sumsFit, listedFormed, listedFormedAt, linesFormed, footerFormed, listedAmount, listedSum, readTic}
+use Rattle.tic_parts.specs.ReadingLaws.{Listing, lined-at, footer-shows}
 use Rattle.tic.specs.RenderedRows.{header-rendered, listed-rendered, footer-rendered}
 use Rattle.tic.specs.Rewriting.{lineRead, codeRead, ticOf}
 use Rattle.tic.specs.RewritingLaws.{Again, again, row-length}
-use Rattle.tic.specs.Shows.{header-shows, counts-show}
+use Rattle.tic_parts.specs.Shows.{header-shows, counts-show}
 use Rattle.tic.specs.Sound.{notFeed, lineSound, codeSound, amountOf, Sound, numbersOf}
-use Rattle.tic.specs.Text.{headerText, listedAt, listedCount, footerText, ticText}
-use Rattle.tic.specs.TextLaws.{part-length}
-use Rattle.tic.specs.declared.values.TicHead.{TicHead}
-use Rattle.tic.specs.declared.values.TicSums.{TicSums}
-use Rattle.tic.specs.declared.values.TicReading.the-variants.{Values}
-use Rattle.tic.specs.declared.values.TicValues.{TicValues}
+use Rattle.tic_text.specs.Text.{headerText, listedAt, listedCount, footerText, ticText}
+use Rattle.tic_text.specs.TextLaws.{part-length}
+use Rattle.tic_text.specs.declared.values.TicHead.{TicHead}
+use Rattle.tic_text.specs.declared.values.TicSums.{TicSums}
+use Rattle.tic_text.specs.declared.values.TicReading.the-variants.{Values}
+use Rattle.tic_text.specs.declared.values.TicValues.{TicValues}
 
 module _ (tic : List ℕ) (v : TicValues) (e : readTic tic ≡ Values v) where
   r : Readable tic (v .listed)

@@ -14,7 +14,7 @@ use Rattle.lines.specs.Rows.{mostLines, linePlace, fileLength, headerOf, lineOf
 use Rattle.lines.specs.RowsLaws.{fits-yes, framed-yes}
 use Rattle.lines.specs.declared.rows.Layout.{Layout}
 use Rattle.lines.specs.declared.rows.Lines.the-variants.{Of}
-use Rattle.tic.specs.TextLaws.{join-even}
+use Rattle.tic_text.specs.TextLaws.{join-even}
 
 -- what is joined before k, then what stands at k, then the rest
 join-split : (f : ℕ → List ℕ) (n k : ℕ) → k < n → (rest : List ℕ) × (joinBelow n f ≡ joinBelow k f ++ (f k ++ rest))

@@ -28,10 +28,10 @@ use Rattle.tif.specs.declared.side.Side.{Side}
 use Rattle.tif.specs.declared.side.Side.the-variants.{Credit, Debit, Neither}
 use Rattle.tic.specs.ByteLaws.{bytes-append, bytes-none, bytes-run, bytes-weaken}
 use Rattle.tic.specs.FeedLaws.{feed-last}
-use Rattle.tic.specs.PieceLaws.{cut-joined, joined-append}
-use Rattle.tic.specs.Pieces.{joined}
+use Rattle.tic_text.specs.PieceLaws.{cut-joined, joined-append}
+use Rattle.tic_text.specs.Pieces.{joined}
 use Rattle.tic.specs.Sound.{notFeed}
-use Rattle.tic.specs.Text.{lineFeed}
+use Rattle.tic_text.specs.Text.{lineFeed}
 
 -- ---- no byte of these classes is a line feed
 not-ten : (b : ℕ) → 11 ≤ b → notFeed b ≡ true

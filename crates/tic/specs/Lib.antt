@@ -1,10 +1,3 @@
-pub mod Pieces
-pub mod PieceLaws
-pub mod Text
-pub mod TextLaws
-pub mod Columns
-pub mod Reading
-pub mod ReadingLaws
 pub mod Readable
 pub mod Listed
 pub mod Rewriting
@@ -14,7 +7,6 @@ pub mod DigitLaws
 pub mod Sound
 pub mod FeedLaws
 pub mod FileLaws
-pub mod Shows
 pub mod RenderedRows
 pub mod AcceptedLaws
 pub mod FreeLaws
@@ -25,4 +17,3 @@ pub mod RenderedIsAccepted
 pub mod ReadThenWrite
 pub mod ListedLaws
 pub mod WriteThenRead
-pub mod Worked

@@ -5,12 +5,12 @@ use lib.ListN.{take, drop}
 use lib.Dec.{eqb, ltb}
 use Rattle.lines.specs.FirstOf.{Row, _⇒_, firstOf}
 use Rattle.lines.specs.Rows.{linePlace}
-use Rattle.tic.specs.Columns.{ticLayout}
-use Rattle.tic.specs.Reading.{faultNumber, readTic}
+use Rattle.tic_text.specs.Columns.{ticLayout}
+use Rattle.tic_parts.specs.Reading.{faultNumber, readTic}
 use Rattle.tic.specs.declared.listed.Listed.{Listed}
 use Rattle.tic.specs.declared.listed.Listed.the-variants.{At, NoSuchLine}
-use Rattle.tic.specs.declared.values.TicReading.{TicReading}
-use Rattle.tic.specs.declared.values.TicReading.the-variants.{Unreadable, Values}
+use Rattle.tic_text.specs.declared.values.TicReading.{TicReading}
+use Rattle.tic_text.specs.declared.values.TicReading.the-variants.{Unreadable, Values}
 
 abbrev pub listedRows : ℕ → ℕ → List (Row Listed)
 listedRows listed k = (eqb k 0 ⇒ NoSuchLine) ∷ (ltb listed k ⇒ NoSuchLine) ∷ []

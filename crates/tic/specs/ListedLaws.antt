@@ -10,12 +10,12 @@ use Rattle.lines.specs.FirstOf.{picked, here, past, none}
 use Rattle.lines.specs.Rows.{linePlace, headerOf, lineOf}
 use Rattle.lines.specs.Tests.{tests}
 use Rattle.tif.specs.PartLaws.{part-part}
-use Rattle.tic.specs.Columns.{ticLayout, shownPart, codePart}
+use Rattle.tic_text.specs.Columns.{ticLayout, shownPart, codePart}
 use Rattle.tic.specs.Listed.{listedPlace, listedLine, shownLine, shownCode}
-use Rattle.tic.specs.Reading.{rowAt, ticHeader, readTic}
+use Rattle.tic_parts.specs.Reading.{rowAt, ticHeader, readTic}
 use Rattle.tic.specs.declared.listed.Listed.the-variants.{At, NoSuchLine}
-use Rattle.tic.specs.declared.values.TicReading.the-variants.{Values}
-use Rattle.tic.specs.declared.values.TicValues.{TicValues}
+use Rattle.tic_text.specs.declared.values.TicReading.the-variants.{Values}
+use Rattle.tic_text.specs.declared.values.TicValues.{TicValues}
 
 -- a part of the header is that part of the TIC
 pub header-part : (tic : List ℕ) (i n : ℕ) → i + n < 197 → take n (drop i (ticHeader tic)) ≡ take n (drop i tic)

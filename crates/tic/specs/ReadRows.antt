@@ -27,18 +27,18 @@ use Rattle.tif.specs.Side.{sideText}
 use Rattle.tif.specs.declared.side.Side.{Side}
 use Rattle.tif.specs.declared.side.Side.the-variants.{Credit, Debit, Neither}
 use Rattle.tic.specs.ByteLaws.{bytes-part, only-run, same-self}
-use Rattle.tic.specs.Columns.{acceptedField, rejectedField, sideField, acceptedAgain, rejectedAgain, shownPart, codePart, rejectedSumField, tifReceiver, receivedStem, receptionMoment}
+use Rattle.tic_text.specs.Columns.{acceptedField, rejectedField, sideField, acceptedAgain, rejectedAgain, shownPart, codePart, rejectedSumField, tifReceiver, receivedStem, receptionMoment}
 use Rattle.tic.specs.DigitLaws.{digits-all, number-digits}
 use Rattle.tic.specs.FreeLaws.{digits-free, cards-free, run-free, side-free, actor-shows, moment-shows, stem-free, FeedFree, with-piece, joined-feed}
-use Rattle.tic.specs.PieceLaws.{joined-cut}
-use Rattle.tic.specs.Pieces.{joined, widthsOf, cutFrom}
-use Rattle.tic.specs.Reading.{namesOneTif, isSide, sideIn, headerFormed, headerDigits, headerSound, headOf, headAgrees, countsAgree, listedFormed, footerFormed, sumsOf}
+use Rattle.tic_text.specs.PieceLaws.{joined-cut}
+use Rattle.tic_text.specs.Pieces.{joined, widthsOf, cutFrom}
+use Rattle.tic_parts.specs.Reading.{namesOneTif, isSide, sideIn, headerFormed, headerDigits, headerSound, headOf, headAgrees, countsAgree, listedFormed, footerFormed, sumsOf}
 use Rattle.tic.specs.RenderedRows.{one-byte, headerWidths, listedWidths, footerWidths}
 use Rattle.tic.specs.Sound.{notFeed, lineSound, codeSound}
-use Rattle.tic.specs.Text.{ticKind, zeros, blanks, fifteen, frontPieces, countPieces, fillerPieces, headerPieces, headerText, listedPieces, listedText, footerPieces, footerText}
-use Rattle.tic.specs.TextLaws.{part-length, zeros-length, blanks-length, side-length}
-use Rattle.tic.specs.declared.values.TicHead.{TicHead}
-use Rattle.tic.specs.declared.values.TicSums.{TicSums}
+use Rattle.tic_text.specs.Text.{ticKind, zeros, blanks, fifteen, frontPieces, countPieces, fillerPieces, headerPieces, headerText, listedPieces, listedText, footerPieces, footerText}
+use Rattle.tic_text.specs.TextLaws.{part-length, zeros-length, blanks-length, side-length}
+use Rattle.tic_text.specs.declared.values.TicHead.{TicHead}
+use Rattle.tic_text.specs.declared.values.TicSums.{TicSums}
 
 -- piece i
 abbrev nth : ℕ → List (List ℕ) → List ℕ

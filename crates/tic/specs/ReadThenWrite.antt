@@ -8,13 +8,13 @@ use borrow.Author.Tests.{le-ltb}
 use Rattle.lines.specs.Splice.{splice}
 use Rattle.lines.specs.SpliceLaws.{splice-zero}
 use Rattle.tic.specs.AcceptedLaws.{rendered}
-use Rattle.tic.specs.Reading.{readTic}
+use Rattle.tic_parts.specs.Reading.{readTic}
 use Rattle.tic.specs.Rewriting.{ticLength, rewrittenFor, Rewrites}
 use Rattle.tic.specs.RewritingLaws.{again}
 use Rattle.tic.specs.declared.rewriting.Rewritten.{Rewritten}
 use Rattle.tic.specs.declared.rewriting.Rewritten.the-variants.{Written}
-use Rattle.tic.specs.declared.values.TicReading.the-variants.{Values}
-use Rattle.tic.specs.declared.values.TicValues.{TicValues}
+use Rattle.tic_text.specs.declared.values.TicReading.the-variants.{Values}
+use Rattle.tic_text.specs.declared.values.TicValues.{TicValues}
 
 pub read-then-write : (tic out : List ℕ) (r : Rewritten) (out′ : List ℕ) (read : TicValues)
     → Rewrites tic out r out′ → readTic tic ≡ Values read → length tic ≤ length out

@@ -11,13 +11,13 @@ use Rattle.lines.specs.RowsLaws.{Framed, framed-is}
 use Rattle.lines.specs.declared.rows.Lines.{Lines}
 use Rattle.lines.specs.declared.rows.Lines.the-variants.{Of, OutOfForm}
 use Rattle.tif.specs.Acceptance.{isFramed, framedCount}
-use Rattle.tic.specs.Columns.{ticLayout}
-use Rattle.tic.specs.Reading.{ticHeader, ticFooter, headerSound, headOf, countsAgree, linesFormed, footerFormed, sumsOf, sumsFit, listedSum, readRows, valuesOf, readTic}
-use Rattle.tic.specs.declared.values.TicValues.{TicValues}
-use Rattle.tic.specs.declared.values.TicFault.{TicFault}
-use Rattle.tic.specs.declared.values.TicFault.the-variants.{Framing, Header, Counts, ListedLine, Footer}
-use Rattle.tic.specs.declared.values.TicReading.{TicReading}
-use Rattle.tic.specs.declared.values.TicReading.the-variants.{Unreadable, Values}
+use Rattle.tic_text.specs.Columns.{ticLayout}
+use Rattle.tic_parts.specs.Reading.{ticHeader, ticFooter, headerSound, headOf, countsAgree, linesFormed, footerFormed, sumsOf, sumsFit, listedSum, readRows, valuesOf, readTic}
+use Rattle.tic_text.specs.declared.values.TicValues.{TicValues}
+use Rattle.tic_text.specs.declared.values.TicFault.{TicFault}
+use Rattle.tic_text.specs.declared.values.TicFault.the-variants.{Framing, Header, Counts, ListedLine, Footer}
+use Rattle.tic_text.specs.declared.values.TicReading.{TicReading}
+use Rattle.tic_text.specs.declared.values.TicReading.the-variants.{Unreadable, Values}
 
 pub record Readable (tic : List ℕ) (n : ℕ) : Type 0 where
   pub framed : framedLines ticLayout tic ≡ Of n

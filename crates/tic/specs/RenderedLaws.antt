@@ -19,19 +19,19 @@ use Rattle.passage.specs.PassageLaws.{gross-small}
 use Rattle.tif.specs.Every.{every-first, every-rest}
 use Rattle.tif.specs.NameLaws.{stem-shows}
 use Rattle.tif.specs.Side.{isSided}
-use Rattle.tic.specs.Columns.{ticLayout}
+use Rattle.tic_text.specs.Columns.{ticLayout}
 use Rattle.tic.specs.FileLaws.{joined-header, joined-line, joined-footer, joined-framed}
 use Rattle.tic.specs.FreeLaws.{actor-shows, moment-shows}
 use Rattle.tic.specs.ReadRows.{HeaderValues, LineShown, line-shows, code-shows, text-sound, head-back, text-counts, header-feed, amount-back, row-formed, row-feed, foot-formed, sums-back, foot-feed}
-use Rattle.tic.specs.Reading.{acceptanceFits, headAgrees, headerSound, headOf, countsAgree, rowAt, listedFormed, listedFormedAt, linesFormed, footerFormed, sumsOf, sumsFit, listedAmount, listedSum, ticHeader, ticFooter, valuesOf, readTic}
-use Rattle.tic.specs.ReadingLaws.{read-from}
+use Rattle.tic_parts.specs.Reading.{acceptanceFits, headAgrees, headerSound, headOf, countsAgree, rowAt, listedFormed, listedFormedAt, linesFormed, footerFormed, sumsOf, sumsFit, listedAmount, listedSum, ticHeader, ticFooter, valuesOf, readTic}
+use Rattle.tic_parts.specs.ReadingLaws.{read-from}
 use Rattle.tic.specs.Sound.{amountOf, Sound, numbersOf}
-use Rattle.tic.specs.Text.{Tic, headerText, listedAt, listedCount, footerText, ticText}
-use Rattle.tic.specs.TextLaws.{Wide, header-length, listed-at-length, footer-length}
-use Rattle.tic.specs.declared.values.TicHead.{TicHead}
-use Rattle.tic.specs.declared.values.TicSums.{TicSums}
-use Rattle.tic.specs.declared.values.TicReading.{TicReading}
-use Rattle.tic.specs.declared.values.TicReading.the-variants.{Values}
+use Rattle.tic_text.specs.Text.{Tic, headerText, listedAt, listedCount, footerText, ticText}
+use Rattle.tic_text.specs.TextLaws.{Wide, header-length, listed-at-length, footer-length}
+use Rattle.tic_text.specs.declared.values.TicHead.{TicHead}
+use Rattle.tic_text.specs.declared.values.TicSums.{TicSums}
+use Rattle.tic_text.specs.declared.values.TicReading.{TicReading}
+use Rattle.tic_text.specs.declared.values.TicReading.the-variants.{Values}
 
 -- an acceptance that fits is at most 05
 fits-small : (h : TicHead) → acceptanceFits h ≡ true → h .acceptance ≤ 5

@@ -12,16 +12,16 @@ use Rattle.lines.specs.Rows.{oneFeed}
 use Rattle.lines.specs.declared.class.Class.the-variants.{Only}
 use Rattle.tif.specs.PartLaws.{part-part}
 use Rattle.tic.specs.ByteLaws.{only-is}
-use Rattle.tic.specs.Columns.{tifReceiver, receivedStem, receptionMoment, shownPart, codePart}
+use Rattle.tic_text.specs.Columns.{tifReceiver, receivedStem, receptionMoment, shownPart, codePart}
 use Rattle.tic.specs.DigitLaws.{digits-number}
 use Rattle.tic.specs.FeedLaws.{feed-at}
-use Rattle.tic.specs.PieceLaws.{cut-joined}
-use Rattle.tic.specs.Pieces.{joined, cutFrom}
-use Rattle.tic.specs.Reading.{headerSound, headOf, countsAgree, listedFormed, footerFormed, sumsOf}
-use Rattle.tic.specs.ReadingLaws.{listed-shows, footer-shows}
-use Rattle.tic.specs.Shows.{header-shows, counts-show}
-use Rattle.tic.specs.Text.{zeros, blanks, fifteen, headerPieces, headerText, listedPieces, listedText, footerPieces, footerText}
-use Rattle.tic.specs.TextLaws.{part-length}
+use Rattle.tic_text.specs.PieceLaws.{cut-joined}
+use Rattle.tic_text.specs.Pieces.{joined, cutFrom}
+use Rattle.tic_parts.specs.Reading.{headerSound, headOf, countsAgree, listedFormed, footerFormed, sumsOf}
+use Rattle.tic_parts.specs.ReadingLaws.{listed-shows, footer-shows}
+use Rattle.tic_parts.specs.Shows.{header-shows, counts-show}
+use Rattle.tic_text.specs.Text.{zeros, blanks, fifteen, headerPieces, headerText, listedPieces, listedText, footerPieces, footerText}
+use Rattle.tic_text.specs.TextLaws.{part-length}
 
 -- ---- the widths of the pieces
 abbrev pub headerWidths : List ℕ

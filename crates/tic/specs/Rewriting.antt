@@ -7,14 +7,14 @@ use lib.ListN.{length}
 use lib.Dec.{ltb}
 use Rattle.lines.specs.Rows.{fileLength}
 use Rattle.lines.specs.Splice.{splice}
-use Rattle.tic.specs.Columns.{ticLayout, tifReceiver, receivedStem, receptionMoment, shownPart, codePart}
-use Rattle.tic.specs.Reading.{ticHeader, ticFooter, ticLines, rowAt, headOf, sumsOf, faultText, readTic}
-use Rattle.tic.specs.Text.{Tic, ticText}
+use Rattle.tic_text.specs.Columns.{ticLayout, tifReceiver, receivedStem, receptionMoment, shownPart, codePart}
+use Rattle.tic_parts.specs.Reading.{ticHeader, ticFooter, ticLines, rowAt, headOf, sumsOf, faultText, readTic}
+use Rattle.tic_text.specs.Text.{Tic, ticText}
 use Rattle.tic.specs.declared.rewriting.Rewritten.{Rewritten}
 use Rattle.tic.specs.declared.rewriting.Rewritten.the-variants.{TooShort, Written}
-use Rattle.tic.specs.declared.values.TicReading.{TicReading}
-use Rattle.tic.specs.declared.values.TicReading.the-variants.{Unreadable, Values}
-use Rattle.tic.specs.declared.values.TicValues.{TicValues}
+use Rattle.tic_text.specs.declared.values.TicReading.{TicReading}
+use Rattle.tic_text.specs.declared.values.TicReading.the-variants.{Unreadable, Values}
+use Rattle.tic_text.specs.declared.values.TicValues.{TicValues}
 
 -- what reading takes from a TIC
 unfoldable pub lineRead : List ℕ → ℕ → List ℕ

@@ -13,20 +13,20 @@ use Rattle.lines.specs.Splice.{Put}
 use Rattle.lines.specs.SpliceLaws.{put-more}
 use Rattle.tif.specs.Acceptance.{framedCount}
 use Rattle.tif.specs.Every.{every-first, every-rest}
-use Rattle.tic.specs.Columns.{ticLayout, tifReceiver, receivedStem, receptionMoment}
+use Rattle.tic_text.specs.Columns.{ticLayout, tifReceiver, receivedStem, receptionMoment}
 use Rattle.tic.specs.Readable.{read-shows}
-use Rattle.tic.specs.Reading.{rowAt, ticHeader, ticFooter, ticLines, headOf, sumsOf, headAgrees, countsAgree, readTic}
+use Rattle.tic_parts.specs.Reading.{rowAt, ticHeader, ticFooter, ticLines, headOf, sumsOf, headAgrees, countsAgree, readTic}
 use Rattle.tic.specs.Rewriting.{lineRead, codeRead, ticOf, ticLength, rewrittenFor, Rewrites}
-use Rattle.tic.specs.Text.{headerText, listedAt, listedCount, footerText, ticText}
-use Rattle.tic.specs.TextLaws.{part-length, listed-length, join-even, Wide, tic-length}
-use Rattle.tic.specs.TextLaws as texts
+use Rattle.tic_text.specs.Text.{headerText, listedAt, listedCount, footerText, ticText}
+use Rattle.tic_text.specs.TextLaws.{part-length, listed-length, join-even, Wide, tic-length}
+use Rattle.tic_text.specs.TextLaws as texts
 use Rattle.tic.specs.declared.rewriting.Rewritten.{Rewritten}
 use Rattle.tic.specs.declared.rewriting.Rewritten.the-variants.{TooShort, Written}
-use Rattle.tic.specs.declared.values.TicFault.{TicFault}
-use Rattle.tic.specs.declared.values.TicHead.{TicHead}
-use Rattle.tic.specs.declared.values.TicReading.the-variants.{Unreadable, Values}
-use Rattle.tic.specs.declared.values.TicSums.{TicSums}
-use Rattle.tic.specs.declared.values.TicValues.{TicValues}
+use Rattle.tic_text.specs.declared.values.TicFault.{TicFault}
+use Rattle.tic_text.specs.declared.values.TicHead.{TicHead}
+use Rattle.tic_text.specs.declared.values.TicReading.the-variants.{Unreadable, Values}
+use Rattle.tic_text.specs.declared.values.TicSums.{TicSums}
+use Rattle.tic_text.specs.declared.values.TicValues.{TicValues}
 
 -- the lines of a TIC that is long enough
 module _ (tic : List ℕ) (n : ℕ) (w : fileLength ticLayout n ≤ length tic) where

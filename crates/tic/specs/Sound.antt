@@ -14,9 +14,9 @@ use Rattle.moment.specs.Moment.{isMoment}
 use Rattle.passage.specs.Passage.{grossAmount}
 use Rattle.tif.specs.Every.{every}
 use Rattle.tif.specs.Name.{isActor, isFileStem}
-use Rattle.tic.specs.Reading.{headAgrees, sumsFit}
-use Rattle.tic.specs.Text.{Tic, listedCount}
-use Rattle.tic.specs.declared.values.TicValues.{TicValues}
+use Rattle.tic_parts.specs.Reading.{headAgrees, sumsFit}
+use Rattle.tic_text.specs.Text.{Tic, listedCount}
+use Rattle.tic_text.specs.declared.values.TicValues.{TicValues}
 
 -- any byte but a line feed
 unfoldable pub notFeed : ℕ → Bool

@@ -5,14 +5,14 @@ use Prim.Native.Nat.{ℕ, _+_, _<_}
 use native.Mathlib.Omega.{arith}
 use Rattle.lines.specs.Columns.{cols}
 use Rattle.tif.specs.Name.{tifKind}
-use Rattle.tic.specs.Columns.{shownPart, codePart, tifReceiver, receptionMoment}
+use Rattle.tic_text.specs.Columns.{shownPart, codePart, tifReceiver, receptionMoment}
 use Rattle.tic.specs.Listed.{listedLine, shownLine, shownCode, shownReceiver, shownIdentity, shownMoment}
 use Rattle.tic.specs.ListedLaws.{header-part, line-shown, code-shown, none-at-zero, none-above}
 use Rattle.tic.specs.ReadRows.{line-back, code-back, code-shows, receiver-back, identity-back, moment-back}
-use Rattle.tic.specs.Reading.{readTic}
+use Rattle.tic_parts.specs.Reading.{readTic}
 use Rattle.tic.specs.RenderedLaws.{reads, shown, text-line, text-header, header-values}
 use Rattle.tic.specs.Sound.{Sound, numbersOf}
-use Rattle.tic.specs.Text.{Tic, listedAt, listedCount, ticText}
+use Rattle.tic_text.specs.Text.{Tic, listedAt, listedCount, ticText}
 use Rattle.tic.specs.declared.listed.Listed.the-variants.{NoSuchLine}
 
 module _ (v : Tic) (s : Sound v) where

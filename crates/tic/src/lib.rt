@@ -1,21 +1,8 @@
-// The TIC as a text: rendering it, reading it, and writing what was read.
-mod body;
-mod columns;
-mod counts;
-mod footer;
-mod header;
-mod header_text;
+// Reading a TIC, showing its listed lines, and writing what was read.
 mod listed;
-mod number;
 mod reading;
 mod rewriting;
-mod text;
-mod texts;
-mod values;
 
-pub use columns::TIC;
-pub use header_text::put_header;
-pub use header_text::put_side;
 pub use listed::Listed;
 pub use listed::listed_line;
 pub use listed::shown_code;
@@ -27,10 +14,3 @@ pub use reading::fault_number;
 pub use reading::read_tic;
 pub use rewriting::Rewritten;
 pub use rewriting::rewrite_tic;
-pub use text::put_footer;
-pub use text::put_listed;
-pub use values::TicFault;
-pub use values::TicHead;
-pub use values::TicReading;
-pub use values::TicSums;
-pub use values::TicValues;

@@ -1,7 +1,7 @@
-use crate::columns::TIC;
 use crate::reading::read_tic;
-use crate::values::TicFault;
-use crate::values::TicReading;
+use tic_text::TIC;
+use tic_text::TicFault;
+use tic_text::TicReading;
 ghost use mathlib.Core.Path.{_≡_};
 ghost use Prim.Native.Nat.{_≤_};
 ghost use lib.ListN.{take, drop};

@@ -1,21 +1,21 @@
-use crate::body::lines_formed;
-use crate::body::listed_sum;
-use crate::columns::TIC;
-use crate::counts::counts_agree;
-use crate::footer::footer_formed;
-use crate::footer::sums_fit;
-use crate::footer::sums_of;
-use crate::header::head_of;
-use crate::header::header_sound;
-use crate::values::TicFault;
-use crate::values::TicReading;
-use crate::values::TicValues;
 use lines::Lines;
 use lines::footer_of;
 use lines::framed_lines;
 use lines::header_of;
+use tic_parts::counts_agree;
+use tic_parts::footer_formed;
+use tic_parts::head_of;
+use tic_parts::header_sound;
+use tic_parts::lines_formed;
+use tic_parts::listed_sum;
+use tic_parts::sums_fit;
+use tic_parts::sums_of;
+use tic_text::TIC;
+use tic_text::TicFault;
+use tic_text::TicReading;
+use tic_text::TicValues;
 ghost use mathlib.Core.Path.{_≡_};
-ghost use Rattle.tic.specs.Reading.{faultNumber, readTic};
+ghost use Rattle.tic_parts.specs.Reading.{faultNumber, readTic};
 
 // Reads a TIC: T1 to T5, or its values.
 pub fn read_tic(tic: &[u8]) -> TicReading

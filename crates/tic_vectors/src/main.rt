@@ -7,13 +7,13 @@ use frames::read_kind;
 use frames::read_part;
 use tic::Listed;
 use tic::Rewritten;
-use tic::TicFault;
-use tic::TicReading;
-use tic::TicValues;
 use tic::fault_number;
 use tic::listed_line;
 use tic::read_tic;
 use tic::rewrite_tic;
+use tic_text::TicFault;
+use tic_text::TicReading;
+use tic_text::TicValues;
 use tif::Side;
 
 // The longest TIC of a case, and the longest output.

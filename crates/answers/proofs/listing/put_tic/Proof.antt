@@ -2,7 +2,7 @@ use native.Mathlib.Omega.{arith}
 use borrow.Author.Needs.{needs}
 use Rattle.answers.specs.TicLaws.{receiver-long, stem-long, after-header, after-lines, tic-whole}
 use Rattle.lines.specs.Splice.{Put}
-use Rattle.tic.specs.Text.{headerText}
+use Rattle.tic_text.specs.Text.{headerText}
 use Rattle.tif.specs.Name.{nameReceiver, nameStem}
 use Rattle.answers.proofs.listing.put_tic.Statement.{statement}
 use Rattle.answers.proofs.listing.put_tic.Tie as tie

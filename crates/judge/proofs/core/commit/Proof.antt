@@ -5,9 +5,9 @@ use borrow.Author.Needs.{needs}
 use Rattle.lines.specs.SpliceLaws.{splice-whole}
 use Rattle.answers.specs.Listing.{ticOf}
 use Rattle.lines.specs.Splice.{splice}
-use Rattle.tic.specs.Text.{ticText}
-use Rattle.tic.specs.declared.values.TicHead.{TicHead}
-use Rattle.tic.specs.declared.values.TicSums.{TicSums}
+use Rattle.tic_text.specs.Text.{ticText}
+use Rattle.tic_text.specs.declared.values.TicHead.{TicHead}
+use Rattle.tic_text.specs.declared.values.TicSums.{TicSums}
 use Rattle.judge.proofs.core.commit.Statement.{statement}
 use Rattle.judge.proofs.core.commit.Tie as tie
 

@@ -10,13 +10,13 @@ use Rattle.lines.specs.FirstOf.{Picks, here, past, none}
 use Rattle.lines.specs.Rows.{framedLines, fileLength}
 use Rattle.lines.specs.RowsLaws.{Framed, framed-is, header-length, footer-length}
 use Rattle.lines.specs.declared.rows.Lines.{Lines}
-use Rattle.tic.specs.Columns.{ticLayout}
-use Rattle.tic.specs.Reading.{headerSound, headOf, countsAgree, footerFormed, sumsOf, sumsFit, listedSum, ticHeader, ticFooter, readRows, valuesOf, readTic}
-use Rattle.tic.specs.ReadingLaws.{sound-digits, read-from, read-unframed}
-use Rattle.tic.specs.declared.values.TicHead.{TicHead}
-use Rattle.tic.specs.declared.values.TicSums.{TicSums}
-use Rattle.tic.specs.declared.values.TicReading.{TicReading}
-use Rattle.tic.specs.declared.values.TicReading.the-variants.{Values}
+use Rattle.tic_text.specs.Columns.{ticLayout}
+use Rattle.tic_parts.specs.Reading.{headerSound, headOf, countsAgree, footerFormed, sumsOf, sumsFit, listedSum, ticHeader, ticFooter, readRows, valuesOf, readTic}
+use Rattle.tic_parts.specs.ReadingLaws.{sound-digits, read-from, read-unframed}
+use Rattle.tic_text.specs.declared.values.TicHead.{TicHead}
+use Rattle.tic_text.specs.declared.values.TicSums.{TicSums}
+use Rattle.tic_text.specs.declared.values.TicReading.{TicReading}
+use Rattle.tic_text.specs.declared.values.TicReading.the-variants.{Values}
 use Rattle.tic.proofs.reading.read_tic.Statement.{statement}
 use Rattle.tic.proofs.reading.read_tic.Tie as tie
 

@@ -2,7 +2,7 @@ use native.Mathlib.Omega.{arith}
 use mathlib.Core.Path.{ap, _∙_}
 use lib.ListN.{length}
 use borrow.Author.Needs.{needs}
-use Rattle.tic.specs.TextLaws.{part-length}
+use Rattle.tic_text.specs.TextLaws.{part-length}
 use Rattle.tic.proofs.rewriting.put_row.Statement.{statement}
 use Rattle.tic.proofs.rewriting.put_row.Tie as tie
 

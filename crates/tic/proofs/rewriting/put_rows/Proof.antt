@@ -8,10 +8,10 @@ use Rattle.lines.specs.BelowLaws.{join-zero, join-suc}
 use Rattle.lines.specs.RowsLaws.{line-ends}
 use Rattle.lines.specs.Splice.{Put}
 use Rattle.lines.specs.SpliceLaws.{put-none, put-more}
-use Rattle.tic.specs.Columns.{ticLayout}
+use Rattle.tic_text.specs.Columns.{ticLayout}
 use Rattle.tic.specs.Rewriting.{ticOf, lineRead, codeRead}
 use Rattle.tic.specs.RewritingLaws.{row-length, rows-length}
-use Rattle.tic.specs.Text.{listedAt}
+use Rattle.tic_text.specs.Text.{listedAt}
 use Rattle.tic.proofs.rewriting.put_rows.Statement.{statement}
 use Rattle.tic.proofs.rewriting.put_rows.Tie as tie
 

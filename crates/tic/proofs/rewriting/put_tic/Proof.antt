@@ -6,7 +6,7 @@ use lib.ListN.{length}
 use borrow.Author.Needs.{needs}
 use Rattle.lines.specs.Columns.{cols}
 use Rattle.tic.specs.RewritingLaws.{Again, again, whole-put, rows-length}
-use Rattle.tic.specs.TextLaws.{part-length, header-length}
+use Rattle.tic_text.specs.TextLaws.{part-length, header-length}
 use Rattle.tic.proofs.rewriting.put_tic.Statement.{statement}
 use Rattle.tic.proofs.rewriting.put_tic.Tie as tie
 

@@ -1,0 +1,6 @@
+pub mod Columns
+pub mod PieceLaws
+pub mod Pieces
+pub mod Text
+pub mod TextLaws
+pub mod Worked
