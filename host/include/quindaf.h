@@ -19,14 +19,14 @@
  *  - Memory behind a pointer to non-const overlaps no other memory lent to the
  *    call, and nobody else reads or writes it until the call returns. It holds
  *    some value on entry: what a function leaves unchanged it may still read.
- *  - 128 KB of stack are free. quindaf_judge uses about 95 KB of it, the other
- *    functions less than 1 KB.
+ *  - 256 KB of stack are free. quindaf_judge and quindaf_judge_with use about
+ *    200 KB of it, the other functions less than 1 KB.
  *
  * Nothing else is asked: each function answers any lengths and any bytes.
  *
  * Columns and lines count from 1, places in a file from 0. Amounts are in 1/100
  * NOK. A TIF line has 810 bytes with its line feed, a TIC line 812; a TIC of n
- * listed lines has 324 + 812 n bytes.
+ * listed lines has 324 + 812 n bytes, a station table of m lines 192 + 233 m.
  */
 #ifndef QUINDAF_H
 #define QUINDAF_H
@@ -38,7 +38,8 @@
 extern "C" {
 #endif
 
-/* The most lines of a TIF and the most open debits; the words that are lent. */
+/* The most lines of a TIF or of a station table and the most open debits; the
+ * words that are lent. */
 #define QUINDAF_WORDS 9999
 
 /* The length of a file name, and of each slot of the received names. */
@@ -47,7 +48,8 @@ extern "C" {
 /* The length of a TIC of n listed lines. */
 #define QUINDAF_TIC_BYTES(n) (324 + 812 * (size_t)(n))
 
-/* Call numbers of quindaf_judge; the first that applies is given. */
+/* Call numbers of quindaf_judge and quindaf_judge_with. The first that applies is
+ * given, in this order: E1 to E6, E8, E7. */
 #define QUINDAF_ANSWERED 0     /* not refused: the summary says the rest */
 #define QUINDAF_E1_NAME 1      /* file name out of form */
 #define QUINDAF_E2_RECEPTION 2 /* reception moment not 14 bytes or not real */
@@ -56,6 +58,7 @@ extern "C" {
 #define QUINDAF_E5_BOOK 5      /* book out of form or above 1,048,576 bytes */
 #define QUINDAF_E6_DEBITS 6    /* open debits or their marks out of form */
 #define QUINDAF_E7_ROOM 7      /* output or records too few for the answer */
+#define QUINDAF_E8_STATIONS 8  /* station table out of form; with one lent only */
 
 /* File acceptances, as in the summary and in the values of a TIC. */
 #define QUINDAF_00_FULL 0          /* every line accepted, or no line at all */
@@ -75,7 +78,7 @@ extern "C" {
  *
  *     verdict + 256 a + 16777216 b
  *
- *     verdict = word % 256, 0 for an accepted line or 1 to 8 for L1 to L8;
+ *     verdict = word % 256, 0 for an accepted line or 1 to 9 for L1 to L9;
  *     a = word / 256 % 65536;
  *     b = word / 16777216.
  *
@@ -87,6 +90,8 @@ extern "C" {
 #define QUINDAF_WORD_A(word) ((uint64_t)(word) / 256 % 65536)
 #define QUINDAF_WORD_B(word) ((uint64_t)(word) / 16777216)
 
+/* Verdicts. The first refusal that applies is given, in this order: L1 to L3, L9,
+ * L4 to L8. */
 #define QUINDAF_ACCEPTED 0
 #define QUINDAF_L1_TYPE 1      /* type not in Table 1 of AP-3.7, or of the other side */
 #define QUINDAF_L2_FORM 2      /* exit moment not real; station, lane, counter or fee not digits */
@@ -96,8 +101,9 @@ extern "C" {
 #define QUINDAF_L6_REPEATED 6  /* DEB: an earlier line has the same columns */
 #define QUINDAF_L7_UNCOVERED 7 /* DEB: no period covers it */
 #define QUINDAF_L8_NO_DEBIT 8  /* CRE: no separate open debit agrees */
+#define QUINDAF_L9_STATION 9   /* a table is lent, and has not its actor, station and lane */
 
-/* Places in the summary of quindaf_judge. */
+/* Places in the summary of quindaf_judge and quindaf_judge_with. */
 #define QUINDAF_SUMMARY_ACCEPTANCE 0      /* 0 to 5 */
 #define QUINDAF_SUMMARY_SIDE 1            /* 0 neither, 1 CRE, 2 DEB */
 #define QUINDAF_SUMMARY_LINES 2           /* lines judged */
@@ -110,7 +116,7 @@ extern "C" {
 #define QUINDAF_SUMMARY_NUMBERS 9
 
 /*
- * Judges a TIF and writes its TIC.
+ * Judges a TIF and writes its TIC. No station table is lent.
  *
  * name       file name of the TIF, 35 bytes: "TIF", sender 6, date YYYYMMDD,
  *            sequence 0001-9999, "_", receiver 6, "_130001"
@@ -142,6 +148,41 @@ uint32_t quindaf_judge(
     const uint8_t *debits, size_t debits_length,
     uint8_t *marks, size_t marks_length,
     const uint8_t *tif, size_t tif_length,
+    size_t room,
+    uint64_t *words,
+    uint8_t *out, size_t out_length,
+    uint64_t *summary);
+
+/*
+ * Judges a TIF and writes its TIC, with a station table. All is as with
+ * quindaf_judge, but for these:
+ *
+ * card       code card, 18 bytes: two digits or capitals for each of L1 to L9;
+ *            16 bytes for L1 to L8 where tst_length is 0. The length of the
+ *            table alone decides, also of one that is out of form.
+ * tst        toll station table of AP-3.4, at most 9,999 lines. Its columns 1 and
+ *            line feeds, version and record count are tested, and of each line
+ *            the actor, station and lane, a triple that no other line has;
+ *            nothing else of it is read. One of 192 bytes has no station. A
+ *            length of 0 means that none is lent: then this is quindaf_judge.
+ *
+ * A line that passes L1 to L3 has L9 where its exit actor (columns 77-82), station
+ * (84-87) and lane (88-91) are not those of a line of the table. A credit with L9
+ * takes no debit.
+ *
+ * Returns 0, or the call number 1 to 8; then marks, words, out and summary are
+ * all unchanged.
+ */
+uint32_t quindaf_judge_with(
+    const uint8_t *name, size_t name_length,
+    const uint8_t *received, size_t received_length,
+    const uint8_t *card, size_t card_length,
+    const uint8_t *names, size_t names_length,
+    const uint8_t *book, size_t book_length,
+    const uint8_t *debits, size_t debits_length,
+    uint8_t *marks, size_t marks_length,
+    const uint8_t *tif, size_t tif_length,
+    const uint8_t *tst, size_t tst_length,
     size_t room,
     uint64_t *words,
     uint8_t *out, size_t out_length,

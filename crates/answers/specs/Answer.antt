@@ -1,11 +1,11 @@
 -- The answers of a call, with their numbers and codes on paper. Assumes nothing.
 use Prim.Native.Nat.{ℕ}
 use Rattle.answers.specs.declared.answer.CallFault.{CallFault}
-use Rattle.answers.specs.declared.answer.CallFault.the-variants.{FileName, ReceptionMoment, CodeCard, ReceivedNames, Book, OpenDebits, Room}
+use Rattle.answers.specs.declared.answer.CallFault.the-variants.{FileName, ReceptionMoment, CodeCard, ReceivedNames, Book, OpenDebits, StationTable, Room}
 use Rattle.answers.specs.declared.answer.FileAnswer.{FileAnswer}
 use Rattle.answers.specs.declared.answer.FileAnswer.the-variants.{Accepted, PartlyAccepted, AlreadyReceived, CountsDiffer, TotalDiffers, OutOfForm}
 
--- E1 to E7
+-- E1 to E8
 abbrev pub faultNumber : CallFault → ℕ
 faultNumber FileName = 1
 faultNumber ReceptionMoment = 2
@@ -13,6 +13,7 @@ faultNumber CodeCard = 3
 faultNumber ReceivedNames = 4
 faultNumber Book = 5
 faultNumber OpenDebits = 6
+faultNumber StationTable = 8
 faultNumber Room = 7
 
 -- 00 to 05

@@ -16,7 +16,7 @@ use Rattle.tic_text.specs.declared.values.TicHead.{TicHead}
 use Rattle.tic_text.specs.declared.values.TicSums.{TicSums}
 use Rattle.verdicts.specs.Verdict.{wordNumber}
 use Rattle.judging.specs.Sums.{isCounted, oneAt}
-use Rattle.answers.specs.Card.{codeOf, verdictsInUse}
+use Rattle.answers.specs.Card.{codeOf}
 
 -- the paper's number of the verdict on line k, counted from 0
 abbrev pub numberAt : List ℕ → ℕ → ℕ
@@ -68,8 +68,7 @@ listedLines tif card words k = joinBelow k (refusedText tif card words)
 -- words of lines that the file has, each with a number that the card knows
 pub record Worded (tif card words : List ℕ) : Type 0 where
   pub lined : (k : ℕ) → k < length words → linePlace tifLayout k + lineWidth ≤ length tif
-  pub carded : length card ≡ verdictsInUse * 2
-  pub known : (k : ℕ) → k < length words → numberAt words k ≤ verdictsInUse
+  pub known : (k : ℕ) → k < length words → numberAt words k * 2 ≤ length card
 
 -- room for the listed lines from a place on
 pub record ListRoom (tif card words : List ℕ) (from : ℕ) (out : List ℕ) : Type 0 where

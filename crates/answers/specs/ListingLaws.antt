@@ -123,7 +123,7 @@ module _ (tif card words : List ℕ) where
   code-length w k h n =
       let m = w .known k h in
       let e : numberAt words k * 2 + 1 - (numberAt words k * 2 - 1) ≡ 2 = omega arith in
-      rw e (part-length (numberAt words k * 2 - 1 - 1) 2 card (omega (arith, w .carded)))
+      rw e (part-length (numberAt words k * 2 - 1 - 1) 2 card (omega (arith, m)))
 
   -- a refused line has a number
   refused-number : (k : ℕ) → refusedAt words k ≡ true → numberAt words k ≡ 0 → ⊥

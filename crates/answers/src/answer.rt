@@ -3,7 +3,7 @@ use tif::Side;
 ghost use mathlib.Core.Path.{_≡_};
 ghost use Rattle.answers.specs.Answer.{answerCode, faultNumber};
 
-// What is wrong with a call: E1 to E7.
+// What is wrong with a call: E1 to E6, E8, E7.
 pub enum CallFault {
     FileName,
     ReceptionMoment,
@@ -11,6 +11,7 @@ pub enum CallFault {
     ReceivedNames,
     Book,
     OpenDebits,
+    StationTable,
     Room,
 }
 
@@ -48,7 +49,7 @@ pub enum Answer {
     Answered(Summary),
 }
 
-// E1 to E7 by their number.
+// E1 to E8 by their number.
 pub fn fault_number(fault: CallFault) -> u64
     ensures { λ r. ⌜ r ≡ faultNumber fault ⌝ }
 {
@@ -59,6 +60,7 @@ pub fn fault_number(fault: CallFault) -> u64
         CallFault::ReceivedNames => 4,
         CallFault::Book => 5,
         CallFault::OpenDebits => 6,
+        CallFault::StationTable => 8,
         CallFault::Room => 7,
     }
 }

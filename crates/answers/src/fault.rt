@@ -7,6 +7,8 @@ use debits::debits_sound;
 use moment::is_moment;
 use tif::is_name;
 use tif::names_whole;
+use tst::is_lent;
+use tst::table_sound;
 ghost use mathlib.Core.Path.{_≡_};
 ghost use Rattle.answers.specs.Fault.{checkCall, checkLent, isSound};
 
@@ -19,9 +21,9 @@ fn is_sound(form: BookForm) -> bool
     }
 }
 
-// E5 and E6.
-fn check_lent(book: &[u8], debits: &[u8], marks: &[u8]) -> CallCheck
-    ensures { λ r. ⌜ r ≡ checkLent (now (book .entry)) (now (debits .entry)) (now (marks .entry)) ⌝ }
+// E5, E6 and E8.
+fn check_lent(book: &[u8], debits: &[u8], marks: &[u8], tst: &[u8]) -> CallCheck
+    ensures { λ r. ⌜ r ≡ checkLent (now (book .entry)) (now (debits .entry)) (now (marks .entry)) (now (tst .entry)) ⌝ }
 {
     if !is_sound(check_book(book)) {
         return CallCheck::Faulty(CallFault::Book);
@@ -29,10 +31,13 @@ fn check_lent(book: &[u8], debits: &[u8], marks: &[u8]) -> CallCheck
     if !debits_sound(debits, marks) {
         return CallCheck::Faulty(CallFault::OpenDebits);
     }
+    if !table_sound(tst) {
+        return CallCheck::Faulty(CallFault::StationTable);
+    }
     CallCheck::Sound
 }
 
-// E1 to E6, in order.
+// E1 to E6 and then E8, in order.
 pub fn check_call(
     name: &[u8],
     received: &[u8],
@@ -41,8 +46,9 @@ pub fn check_call(
     book: &[u8],
     debits: &[u8],
     marks: &[u8],
+    tst: &[u8],
 ) -> CallCheck
-    ensures { λ r. ⌜ r ≡ checkCall (now (name .entry)) (now (received .entry)) (now (card .entry)) (now (names .entry)) (now (book .entry)) (now (debits .entry)) (now (marks .entry)) ⌝ }
+    ensures { λ r. ⌜ r ≡ checkCall (now (name .entry)) (now (received .entry)) (now (card .entry)) (now (names .entry)) (now (book .entry)) (now (debits .entry)) (now (marks .entry)) (now (tst .entry)) ⌝ }
 {
     if !is_name(name) {
         return CallCheck::Faulty(CallFault::FileName);
@@ -50,11 +56,11 @@ pub fn check_call(
     if !is_moment(received) {
         return CallCheck::Faulty(CallFault::ReceptionMoment);
     }
-    if !is_card(card) {
+    if !is_card(card, is_lent(tst)) {
         return CallCheck::Faulty(CallFault::CodeCard);
     }
     if !names_whole(names) {
         return CallCheck::Faulty(CallFault::ReceivedNames);
     }
-    check_lent(book, debits, marks)
+    check_lent(book, debits, marks, tst)
 }

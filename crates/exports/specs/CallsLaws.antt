@@ -11,13 +11,14 @@ use Rattle.exports.specs.Numbers.{callNumber}
 use Rattle.exports.specs.Calls.{summaryAfter, AnswerTold, CallJudged}
 
 -- a fault's number fits an answer
-pub call-fault-small : (fault : CallFault) → faultNumber fault < 8
+pub call-fault-small : (fault : CallFault) → faultNumber fault < 9
 call-fault-small CallFault.FileName = omega arith
 call-fault-small CallFault.ReceptionMoment = omega arith
 call-fault-small CallFault.CodeCard = omega arith
 call-fault-small CallFault.ReceivedNames = omega arith
 call-fault-small CallFault.Book = omega arith
 call-fault-small CallFault.OpenDebits = omega arith
+call-fault-small CallFault.StationTable = omega arith
 call-fault-small CallFault.Room = omega arith
 
 pub answer-told : (answer found : Answer) (summary : List ℕ) (r : ℕ) (summary′ : List ℕ) → answer ≡ found → r ≡ callNumber found → summary′ ≡ summaryAfter found summary → AnswerTold answer summary r summary′

@@ -18,7 +18,7 @@ sideNumber Neither = 0
 sideNumber Credit = 1
 sideNumber Debit = 2
 
--- E1 to E7, and 0 for a call that is answered
+-- E1 to E8, and 0 for a call that is answered
 abbrev pub callNumber : Answer → ℕ
 callNumber (Refused fault) = call.faultNumber fault
 callNumber (Answered s) = 0

@@ -5,6 +5,7 @@ use answers::Summary;
 use answers::answer_code;
 use judge::judge_words;
 ghost use mathlib.Core.Path.{_≡_};
+ghost use mathlib.Core.List.{[]};
 ghost use Rattle.judge.specs.Call.{callOf};
 ghost use Rattle.exports.specs.Calls.{summaryTold, AnswerTold, CallJudged};
 
@@ -43,7 +44,43 @@ fn tell_answer(summary: &mut [u64; 9], answer: Answer) -> u32
     }
 }
 
-// Judges a TIF as `judge` does, with the words of the lines judged in place of their records: 0 and the nine values of the answer, or 1 to 7 for E1 to E7, with nothing written.
+// Judges a TIF as `judge` does, with the words of the lines judged in place of their records: 0 and the nine values of the answer, or 1 to 8 for E1 to E8, with nothing written. An empty station table means that none is lent.
+#[no_mangle]
+pub extern "C" fn quindaf_judge_with(
+    name: &[u8],
+    received: &[u8],
+    card: &[u8],
+    names: &[u8],
+    book: &[u8],
+    debits: &[u8],
+    marks: &mut [u8],
+    tif: &[u8],
+    tst: &[u8],
+    room: usize,
+    words: &mut [u64; 9999],
+    out: &mut [u8],
+    summary: &mut [u64; 9],
+) -> u32
+    ensures { λ r. ⌜ CallJudged (callOf (now (name .entry)) (now (received .entry)) (now (card .entry)) (now (names .entry)) (now (book .entry)) (now (debits .entry)) (now (marks .entry)) (now (tif .entry)) (now (tst .entry)) room (now (out .entry))) (now (words .entry)) (now (summary .entry)) r (now (marks .exit)) (now (words .exit)) (now (out .exit)) (now (summary .exit)) ⌝ }
+{
+    let answer = judge_words(
+        name,
+        received,
+        card,
+        names,
+        book,
+        debits,
+        marks,
+        tif,
+        tst,
+        room,
+        words,
+        out,
+    );
+    tell_answer(summary, answer)
+}
+
+// The same with no station table lent, and so never 8.
 #[no_mangle]
 pub extern "C" fn quindaf_judge(
     name: &[u8],
@@ -59,8 +96,9 @@ pub extern "C" fn quindaf_judge(
     out: &mut [u8],
     summary: &mut [u64; 9],
 ) -> u32
-    ensures { λ r. ⌜ CallJudged (callOf (now (name .entry)) (now (received .entry)) (now (card .entry)) (now (names .entry)) (now (book .entry)) (now (debits .entry)) (now (marks .entry)) (now (tif .entry)) room (now (out .entry))) (now (words .entry)) (now (summary .entry)) r (now (marks .exit)) (now (words .exit)) (now (out .exit)) (now (summary .exit)) ⌝ }
+    ensures { λ r. ⌜ CallJudged (callOf (now (name .entry)) (now (received .entry)) (now (card .entry)) (now (names .entry)) (now (book .entry)) (now (debits .entry)) (now (marks .entry)) (now (tif .entry)) [] room (now (out .entry))) (now (words .entry)) (now (summary .entry)) r (now (marks .exit)) (now (words .exit)) (now (out .exit)) (now (summary .exit)) ⌝ }
 {
+    let none = [0u8; 1];
     let answer = judge_words(
         name,
         received,
@@ -70,6 +108,7 @@ pub extern "C" fn quindaf_judge(
         debits,
         marks,
         tif,
+        &none[0..0],
         room,
         words,
         out,

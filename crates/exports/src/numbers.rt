@@ -24,7 +24,7 @@ pub fn tic_fault_number(fault: TicFault) -> u32
     fault_number(fault) as u32
 }
 
-// E1 to E7 in the width of an answer.
+// E1 to E8 in the width of an answer.
 pub fn call_fault_number(fault: CallFault) -> u32
     ensures { λ r. ⌜ r ≡ call.faultNumber fault ⌝ }
 {

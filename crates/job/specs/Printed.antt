@@ -25,9 +25,9 @@ recordsLent = 128
 unfoldable pub outputLent : List ℕ
 outputLent = replicate 65536 0
 
--- the call of a job: name, moment, card, names, book, open debits, marks, TIF
+-- the call of a job: name, moment, card, names, book, open debits, marks, TIF; no station table is lent
 abbrev pub callOfJob : List ℕ → Call
-callOfJob job = callOf (bodyOf job 0) (bodyOf job 1) (bodyOf job 2) (bodyOf job 3) (bodyOf job 4) (bodyOf job 5) (bodyOf job 6) (bodyOf job 7) recordsLent outputLent
+callOfJob job = callOf (bodyOf job 0) (bodyOf job 1) (bodyOf job 2) (bodyOf job 3) (bodyOf job 4) (bodyOf job 5) (bodyOf job 6) (bodyOf job 7) [] recordsLent outputLent
 
 -- ---- numbers
 -- how many decimal digits a number has, where they are not more than `most`

@@ -120,11 +120,11 @@ unfolding outputLent
 output-length = length-replicate {A = ℕ} 65536 0
 
 -- of the output lent only its length decides on the answer
-answer-by-length : (name received card names book debits marks tif : List ℕ) (room : ℕ) (out out′ : List ℕ) → length out ≡ length out′
-    → answerOf (callOf name received card names book debits marks tif room out) ≡ answerOf (callOf name received card names book debits marks tif room out′)
+answer-by-length : (name received card names book debits marks tif tst : List ℕ) (room : ℕ) (out out′ : List ℕ) → length out ≡ length out′
+    → answerOf (callOf name received card names book debits marks tif tst room out) ≡ answerOf (callOf name received card names book debits marks tif tst room out′)
 unfolding answerOf summaryOf wordsJudged
-answer-by-length name received card names book debits marks tif room out out′ e =
-    let c = callOf name received card names book debits marks tif room out in
+answer-by-length name received card names book debits marks tif tst room out out′ e =
+    let c = callOf name received card names book debits marks tif tst room out in
     ap (λ (n : ℕ). answerFor (checkOf c) (answerSound (summaryOf c) room n)) e
 
 -- the front of the copy is the marks
@@ -132,19 +132,19 @@ copied : (copy copy′ marks : List ℕ) (r : ℕ) → Put marks 0 copy r copy�
 copied copy copy′ marks r p = rw (sub-zero (length marks), p .spliced, splice-zero copy marks) (take-at marks (drop (length marks) copy) (length marks) refl)
 
 -- a call judged with the marks in a copy
-pub answer-on-copy : (name received card names book debits marks tif copy copy′ out : List ℕ) (r : ℕ) → Put marks 0 copy r copy′ → length out ≡ 65536
-    → answerOf (callOf name received card names book debits (take (length marks - 0) copy′) tif recordsLent out) ≡ answerOf (callOf name received card names book debits marks tif recordsLent outputLent)
-answer-on-copy name received card names book debits marks tif copy copy′ out r p e =
-    ap (λ (ms : List ℕ). answerOf (callOf name received card names book debits ms tif recordsLent out)) (copied copy copy′ marks r p)
-    ∙ answer-by-length name received card names book debits marks tif recordsLent out outputLent (e ∙ sym output-length)
+pub answer-on-copy : (name received card names book debits marks tif tst copy copy′ out : List ℕ) (r : ℕ) → Put marks 0 copy r copy′ → length out ≡ 65536
+    → answerOf (callOf name received card names book debits (take (length marks - 0) copy′) tif tst recordsLent out) ≡ answerOf (callOf name received card names book debits marks tif tst recordsLent outputLent)
+answer-on-copy name received card names book debits marks tif tst copy copy′ out r p e =
+    ap (λ (ms : List ℕ). answerOf (callOf name received card names book debits ms tif tst recordsLent out)) (copied copy copy′ marks r p)
+    ∙ answer-by-length name received card names book debits marks tif tst recordsLent out outputLent (e ∙ sym output-length)
 
 -- ---- the records
 -- a call judged with a table of so many records
-pub lent-from-judged : (name received card names book debits marks tif out : List ℕ) (room : ℕ) → room ≡ recordsLent → (ys : List Record) (r : Answer) (ms : List ℕ) (rs : List Record) (os : List ℕ)
-    → Judged (callOf name received card names book debits marks tif room out) ys r ms rs os → JudgedLent (callOf name received card names book debits marks tif recordsLent out) r ms os
-lent-from-judged name received card names book debits marks tif out room e ys r ms rs os j =
+pub lent-from-judged : (name received card names book debits marks tif tst out : List ℕ) (room : ℕ) → room ≡ recordsLent → (ys : List Record) (r : Answer) (ms : List ℕ) (rs : List Record) (os : List ℕ)
+    → Judged (callOf name received card names book debits marks tif tst room out) ys r ms rs os → JudgedLent (callOf name received card names book debits marks tif tst recordsLent out) r ms os
+lent-from-judged name received card names book debits marks tif tst out room e ys r ms rs os j =
     record {
-      answer = j .answer ∙ ap (λ (n : ℕ). answerOf (callOf name received card names book debits marks tif n out)) e;
-      marksThen = j .marksThen ∙ ap (λ (n : ℕ). marksOf (callOf name received card names book debits marks tif n out)) e;
-      outThen = j .outThen ∙ ap (λ (n : ℕ). outOf (callOf name received card names book debits marks tif n out)) e;
+      answer = j .answer ∙ ap (λ (n : ℕ). answerOf (callOf name received card names book debits marks tif tst n out)) e;
+      marksThen = j .marksThen ∙ ap (λ (n : ℕ). marksOf (callOf name received card names book debits marks tif tst n out)) e;
+      outThen = j .outThen ∙ ap (λ (n : ℕ). outOf (callOf name received card names book debits marks tif tst n out)) e;
     }

@@ -7,6 +7,7 @@ use lines::put_bytes;
 use verdicts::Record;
 use verdicts::Verdict;
 ghost use mathlib.Core.Bool.{true};
+ghost use mathlib.Core.List.{[]};
 ghost use mathlib.Core.Path.{_≡_};
 ghost use Prim.Native.Nat.{_≤_};
 ghost use lib.ListN.{length};
@@ -36,9 +37,10 @@ fn judge_lent(
     debits: &[u8],
     marks: &mut [u8],
     tif: &[u8],
+    tst: &[u8],
     out: &mut [u8],
 ) -> Answer
-    ensures { λ r. ⌜ JudgedLent (callOf (now (name .entry)) (now (received .entry)) (now (card .entry)) (now (names .entry)) (now (book .entry)) (now (debits .entry)) (now (marks .entry)) (now (tif .entry)) recordsLent (now (out .entry))) r (now (marks .exit)) (now (out .exit)) ⌝ }
+    ensures { λ r. ⌜ JudgedLent (callOf (now (name .entry)) (now (received .entry)) (now (card .entry)) (now (names .entry)) (now (book .entry)) (now (debits .entry)) (now (marks .entry)) (now (tif .entry)) (now (tst .entry)) recordsLent (now (out .entry))) r (now (marks .exit)) (now (out .exit)) ⌝ }
 {
     let blank = blank_record();
     let mut records = [blank; 128];
@@ -51,6 +53,7 @@ fn judge_lent(
         debits,
         marks,
         tif,
+        tst,
         &mut records,
         out,
     )
@@ -66,11 +69,12 @@ fn judge_copied(
     debits: &[u8],
     marks: &[u8],
     tif: &[u8],
+    tst: &[u8],
     copy: &mut [u8],
     out: &mut [u8],
 ) -> Answer
     requires { ⌜ (length (now marks) ≤ length (now copy)) × (length (now out) ≡ 65536) ⌝ }
-    ensures { λ r. ⌜ r ≡ answerOf (callOf (now (name .entry)) (now (received .entry)) (now (card .entry)) (now (names .entry)) (now (book .entry)) (now (debits .entry)) (now (marks .entry)) (now (tif .entry)) recordsLent outputLent) ⌝ }
+    ensures { λ r. ⌜ r ≡ answerOf (callOf (now (name .entry)) (now (received .entry)) (now (card .entry)) (now (names .entry)) (now (book .entry)) (now (debits .entry)) (now (marks .entry)) (now (tif .entry)) (now (tst .entry)) recordsLent outputLent) ⌝ }
 {
     let size = marks.len();
     put_bytes(copy, 0, marks);
@@ -83,11 +87,12 @@ fn judge_copied(
         debits,
         &mut copy[0..size],
         tif,
+        tst,
         out,
     )
 }
 
-// Judges the call of eight bodies.
+// Judges the call of eight bodies, with no station table lent.
 fn judge_bodies(
     name: &[u8],
     received: &[u8],
@@ -99,8 +104,9 @@ fn judge_bodies(
     tif: &[u8],
 ) -> Answer
     requires { ⌜ length (now marks) ≤ 65536 ⌝ }
-    ensures { λ r. ⌜ r ≡ answerOf (callOf (now (name .entry)) (now (received .entry)) (now (card .entry)) (now (names .entry)) (now (book .entry)) (now (debits .entry)) (now (marks .entry)) (now (tif .entry)) recordsLent outputLent) ⌝ }
+    ensures { λ r. ⌜ r ≡ answerOf (callOf (now (name .entry)) (now (received .entry)) (now (card .entry)) (now (names .entry)) (now (book .entry)) (now (debits .entry)) (now (marks .entry)) (now (tif .entry)) [] recordsLent outputLent) ⌝ }
 {
+    let none = [0u8; 1];
     let mut copy = [0u8; 65536];
     let mut out = [0u8; 65536];
     judge_copied(
@@ -112,6 +118,7 @@ fn judge_bodies(
         debits,
         marks,
         tif,
+        &none[0..0],
         &mut copy,
         &mut out,
     )

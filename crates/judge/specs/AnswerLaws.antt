@@ -21,7 +21,7 @@ use Rattle.answers.specs.declared.answer.CallCheck.{CallCheck}
 use Rattle.answers.specs.declared.answer.CallFault.{CallFault}
 use Rattle.answers.specs.declared.answer.Summary.{Summary}
 
--- a call that E1 to E6 refuse
+-- a call that E1 to E6 or E8 refuse
 pub refused-call : (c : Call) (f : CallFault) → checkOf c ≡ CallCheck.Faulty f → (words : List ℕ) → CallTried c words (Refused f) (c .marks) words (c .out)
 unfolding answerOf marksOf outOf wordsTried
 refused-call c f e words =

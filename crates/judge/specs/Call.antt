@@ -33,11 +33,12 @@ pub record Call : Type 0 where
   pub debits : List ℕ
   pub marks : List ℕ
   pub tif : List ℕ
+  pub tst : List ℕ
   pub room : ℕ
   pub out : List ℕ
 
-abbrev pub callOf : List ℕ → List ℕ → List ℕ → List ℕ → List ℕ → List ℕ → List ℕ → List ℕ → ℕ → List ℕ → Call
-callOf name received card names book debits marks tif room out = record {
+abbrev pub callOf : List ℕ → List ℕ → List ℕ → List ℕ → List ℕ → List ℕ → List ℕ → List ℕ → List ℕ → ℕ → List ℕ → Call
+callOf name received card names book debits marks tif tst room out = record {
   name = name;
   received = received;
   card = card;
@@ -46,13 +47,14 @@ callOf name received card names book debits marks tif room out = record {
   debits = debits;
   marks = marks;
   tif = tif;
+  tst = tst;
   room = room;
   out = out;
 }
 
--- E1 to E6
+-- E1 to E6 and E8
 abbrev pub checkOf : Call → CallCheck
-checkOf c = checkCall (c .name) (c .received) (c .card) (c .names) (c .book) (c .debits) (c .marks)
+checkOf c = checkCall (c .name) (c .received) (c .card) (c .names) (c .book) (c .debits) (c .marks) (c .tst)
 
 -- 02, 05, 03, 04, or the file is judged line by line
 abbrev pub fileOf : Call → Acceptance
@@ -66,9 +68,9 @@ linesToJudge Acceptance.OutOfForm = 0
 linesToJudge Acceptance.CountsDiffer = 0
 linesToJudge Acceptance.TotalDiffers = 0
 
--- the lines are judged by the side of the file, the sender in its name, the book and the open debits
+-- the lines are judged by the side of the file, the sender in its name, the book, the open debits and the station table
 abbrev pub judgingOf : Call → Judging
-judgingOf c = judging (sideOf (c .tif)) (nameSender (c .name)) (c .book) (c .debits) (c .tif)
+judgingOf c = judging (sideOf (c .tif)) (nameSender (c .name)) (c .book) (c .debits) (c .tif) (c .tst)
 
 abbrev pub linesOf : Call → ℕ
 linesOf c = linesToJudge (fileOf c)

@@ -1,6 +1,6 @@
 -- What each step of the call rests on, and what it gives. Assumes nothing.
 use mathlib.Core.Path.{_≡_}
-use mathlib.Core.Bool.{cond}
+use mathlib.Core.Bool.{true, cond}
 use mathlib.Core.List.{List, []}
 use Prim.Native.Nat.{ℕ, _*_, _≤_, _<_}
 use lib.ListN.{length, take}
@@ -8,6 +8,7 @@ use Rattle.lines.specs.Rows.{mostLines}
 use Rattle.lines.specs.Splice.{splice}
 use Rattle.tif.specs.Name.{nameSender}
 use Rattle.tif.specs.Side.{sideOf}
+use Rattle.tst.specs.Form.{tableSound}
 use Rattle.judging.specs.Judging.{judging, marksBefore, wordsOf}
 use Rattle.judging.specs.Steps.{Given}
 use Rattle.tif.specs.declared.acceptance.Acceptance.{Acceptance}
@@ -15,7 +16,6 @@ use Rattle.tif.specs.declared.acceptance.Whole.{Whole}
 use Rattle.tic_text.specs.Text.{ticText}
 use Rattle.answers.specs.Told.{headOf, sumsOf, tooSmall}
 use Rattle.judge.specs.Call.{Call, checkOf, fileOf, wordsJudged, answerSound, answerOf, marksOf, outOf, linesToRecord}
-use Rattle.answers.specs.Card.{verdictsInUse}
 use Rattle.answers.specs.Listing.{ticOf, TicRoom}
 use Rattle.judge.specs.Records.{LineKnown}
 use Rattle.answers.specs.declared.answer.CallCheck.{CallCheck}
@@ -23,16 +23,17 @@ use Rattle.answers.specs.declared.answer.Answer.{Answer}
 use Rattle.answers.specs.declared.answer.Summary.{Summary}
 
 -- lines to judge: a name of its width, what the judging asks for, and room for the words
-pub record LinesReady (name book debits marks tif : List ℕ) (n : ℕ) (words : List ℕ) : Type 0 where
+pub record LinesReady (name book debits marks tif tst : List ℕ) (n : ℕ) (words : List ℕ) : Type 0 where
   pub named : length name ≡ 35
   pub given : Given book debits marks tif n
+  pub tabled : tableSound tst ≡ true
   pub few : n ≤ mostLines
   pub room : n ≤ length words
 
 -- n lines judged: the marks after them in front of the copy, their words in front of those lent
-pub record Filled (name book debits marks tif : List ℕ) (n : ℕ) (words mine′ words′ : List ℕ) : Type 0 where
-  pub marked : take (length marks) mine′ ≡ marksBefore (judging (sideOf tif) (nameSender name) book debits tif) marks n
-  pub worded : words′ ≡ splice words 0 (wordsOf (judging (sideOf tif) (nameSender name) book debits tif) marks n)
+pub record Filled (name book debits marks tif tst : List ℕ) (n : ℕ) (words mine′ words′ : List ℕ) : Type 0 where
+  pub marked : take (length marks) mine′ ≡ marksBefore (judging (sideOf tif) (nameSender name) book debits tif tst) marks n
+  pub worded : words′ ≡ splice words 0 (wordsOf (judging (sideOf tif) (nameSender name) book debits tif tst) marks n)
   pub fits : length marks ≤ length mine′
 
 -- ready to be committed: room for the TIC, and a mark for each that is lent
@@ -56,10 +57,9 @@ pub record FileReady (c : Call) (w : Whole) (words : List ℕ) : Type 0 where
   pub file : fileOf c ≡ Acceptance.Judged w
 
 -- ---- a file that is refused as a whole
-pub record Widths (name received card : List ℕ) : Type 0 where
+pub record Widths (name received : List ℕ) : Type 0 where
   pub named : length name ≡ 35
   pub dated : length received ≡ 14
-  pub carded : length card ≡ verdictsInUse * 2
 
 -- its TIC, where there is room for it
 pub record FileRefused (name received card tif : List ℕ) (s : Summary) (room : ℕ) (out : List ℕ) (r : Answer) (out′ : List ℕ) : Type 0 where

@@ -20,18 +20,18 @@ unfolding wordsOf
 words-length j marks n = table-length (wordAt j marks) n
 
 -- the parts that were judged, with what stands behind them
-module _ (name book debits mine tif words : List ℕ) (m n : ℕ) (fits : m ≤ length mine) (room : n ≤ length words) where
+module _ (name book debits mine tif tst words : List ℕ) (m n : ℕ) (fits : m ≤ length mine) (room : n ≤ length words) where
   pub parts-filled : (side : Side) (sender : List ℕ) → side ≡ sideOf tif → sender ≡ nameSender name
       → (mine₁ words₁ behind : List ℕ) → length mine₁ ≡ m
-      → AllJudged (judging side sender book debits tif) (length (take (n - 0) words)) (take (m - 0) mine) mine₁ words₁
-      → Filled name book debits (take m mine) tif n words (mine₁ ++ behind) (words₁ ++ drop (n - 0) words)
+      → AllJudged (judging side sender book debits tif tst) (length (take (n - 0) words)) (take (m - 0) mine) mine₁ words₁
+      → Filled name book debits (take m mine) tif tst n words (mine₁ ++ behind) (words₁ ++ drop (n - 0) words)
   parts-filled side sender es er mine₁ words₁ behind lm a =
-      let j = judging (sideOf tif) (nameSender name) book debits tif in
+      let j = judging (sideOf tif) (nameSender name) book debits tif tst in
       let ml : length (take m mine) ≡ m = length-take-le m mine fits in
       let nl : length (take (n - 0) words) ≡ n = rw sub-zero (length-take-le n words room) in
-      let ej : judging side sender book debits tif ≡ j = ap (λ (s : Side). judging s sender book debits tif) es ∙ ap (λ (s : List ℕ). judging (sideOf tif) s book debits tif) er in
+      let ej : judging side sender book debits tif tst ≡ j = ap (λ (s : Side). judging s sender book debits tif tst) es ∙ ap (λ (s : List ℕ). judging (sideOf tif) s book debits tif tst) er in
       let b : AllJudged j n (take m mine) mine₁ words₁ =
-      subst (λ (i : Judging). AllJudged i n (take m mine) mine₁ words₁) ej (subst (λ (k : ℕ). AllJudged (judging side sender book debits tif) k (take m mine) mine₁ words₁) nl (subst (λ (k : ℕ). AllJudged (judging side sender book debits tif) (length (take (n - 0) words)) (take k mine) mine₁ words₁) (sub-zero m) a)) in
+      subst (λ (i : Judging). AllJudged i n (take m mine) mine₁ words₁) ej (subst (λ (k : ℕ). AllJudged (judging side sender book debits tif tst) k (take m mine) mine₁ words₁) nl (subst (λ (k : ℕ). AllJudged (judging side sender book debits tif tst) (length (take (n - 0) words)) (take k mine) mine₁ words₁) (sub-zero m) a)) in
       let ws = wordsOf j (take m mine) n in
       record {
         marked = rw ml (take-at mine₁ behind m lm ∙ b .marked);

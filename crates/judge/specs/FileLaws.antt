@@ -1,5 +1,5 @@
 -- A file judged line by line: from the words and marks that were found to the call's. Assumes nothing.
-use mathlib.Core.Path.{_≡_, sym, ap, _∙_}
+use mathlib.Core.Path.{_≡_, refl, sym, ap, _∙_}
 use mathlib.Core.Bool.{false}
 use mathlib.Core.List.{List}
 use Prim.Native.Nat.{ℕ, _+_, _-_, _*_, _≤_, _<_}
@@ -49,7 +49,7 @@ module _ (c : Call) (w : Whole) (words : List ℕ) (ready : FileReady c w words)
   few : w .lines ≤ length words
   few = omega (arith, lines-few c sound w (ready .file), ready .ready .room)
 
-  module _ (mine′ words′ : List ℕ) (filled : Filled (c .name) (c .book) (c .debits) (c .marks) (c .tif) (w .lines) words mine′ words′) where
+  module _ (mine′ words′ : List ℕ) (filled : Filled (c .name) (c .book) (c .debits) (c .marks) (c .tif) (c .tst) (w .lines) words mine′ words′) where
     pub tried : words′ ≡ splice words 0 (wordsJudged c)
     tried = filled .worded ∙ ap (splice words 0) (sym judged-words)
 
@@ -100,7 +100,7 @@ module _ (c : Call) (w : Whole) (words : List ℕ) (ready : FileReady c w words)
             text = record {
               named = sound .named;
               dated = sound .dated;
-              worded = rw (front ∙ judged-words) (list-ready c sound w (ready .file) j);
+              worded = rw (front ∙ judged-words) (list-ready c sound w (ready .file) j refl);
               counted = refused-is;
               room = omega (arith, refused-is, length-is, room);
             };

@@ -1,8 +1,8 @@
--- What is known of a call that E1 to E6 let pass, and of its file where it is judged line by line. Assumes nothing.
-use mathlib.Core.Path.{_≡_, refl}
+-- What is known of a call that E1 to E6 and E8 let pass, and of its file where it is judged line by line. Assumes nothing.
+use mathlib.Core.Path.{_≡_, refl, ap}
 use mathlib.Core.Bool.{Bool, true, false, not, cond, false≢true}
 use mathlib.Core.List.{List, [], _∷_}
-use Prim.Native.Nat.{ℕ, _+_, _≤_, _<_}
+use Prim.Native.Nat.{ℕ, _+_, _*_, _≤_, _<_}
 use native.Mathlib.Omega.{arith}
 use lib.ListN.{length, drop}
 use lib.Dec.{eqb}
@@ -24,16 +24,19 @@ use Rattle.tif.specs.NameLaws.{name-shows}
 use Rattle.tif.specs.Received.{namesWhole}
 use Rattle.tif.specs.declared.acceptance.Acceptance.{Acceptance}
 use Rattle.tif.specs.declared.acceptance.Whole.{Whole}
+use Rattle.tst.specs.Form.{isLent, tableSound}
 use Rattle.book.specs.Form.{bookSound}
 use Rattle.book.specs.Layout.{width}
 use Rattle.debits.specs.Form.{debitsSound, Sound}
 use Rattle.debits.specs.FormLaws.{sound-is}
 use Rattle.verdicts.specs.Verdict.{wordOf, wordNumber}
+use Rattle.verdicts.specs.VerdictLaws.{word-number}
 use Rattle.verdicts.specs.declared.verdict.Verdict.{Verdict}
-use Rattle.judging.specs.Judging.{Judging, wordsOf, wordAt, verdictAt}
+use Rattle.judging.specs.Judging.{Judging, marksBefore, wordsOf, wordAt, verdictAt}
+use Rattle.judging.specs.WordLaws.{unlent-number}
 use Rattle.judging.specs.Sums.{Worded}
 use Rattle.judge.specs.Call.{Call, checkOf, fileOf}
-use Rattle.answers.specs.Card.{isCard}
+use Rattle.answers.specs.Card.{verdictsInUse, isCard}
 use Rattle.judge.specs.Core.{LinesReady}
 use Rattle.answers.specs.Fault.{lentRows, checkLent, callRows, checkCall}
 use Rattle.judge.specs.CoreLaws.{words-length}
@@ -62,47 +65,50 @@ moment-long s e = go (eqb (length s) 14) refl e
     go true f r = eqb-true (length s) 14 f
     go false f r = absurd (false≢true r)
 
-card-long : (card : List ℕ) → isCard card ≡ true → length card ≡ 16
+card-long : (lent : Bool) (card : List ℕ) → isCard lent card ≡ true → length card ≡ verdictsInUse lent * 2
 unfolding isCard
-card-long card e = eqb-true (length card) 16 (and-left (eqb (length card) 16) (allOf DigitOrCapital card) e)
+card-long lent card e = eqb-true (length card) (verdictsInUse lent * 2) (and-left (eqb (length card) (verdictsInUse lent * 2)) (allOf DigitOrCapital card) e)
 
 pub record CallSound (c : Call) : Type 0 where
   pub nameForm : isName (c .name) ≡ true
   pub momentReal : isMoment (c .received) ≡ true
-  pub cardForm : isCard (c .card) ≡ true
+  pub cardForm : isCard (isLent (c .tst)) (c .card) ≡ true
   pub named : length (c .name) ≡ 35
   pub dated : length (c .received) ≡ 14
-  pub carded : length (c .card) ≡ 16
+  pub carded : length (c .card) ≡ verdictsInUse (isLent (c .tst)) * 2
   pub booked : bookSound width (c .book) ≡ true
   pub owed : Sound (c .debits) (c .marks)
+  pub tabled : tableSound (c .tst) ≡ true
 
 pub check-shows : (c : Call) → checkOf c ≡ CallCheck.Sound → CallSound c
 unfolding checkCall checkLent
 check-shows c e =
-    let t = callRows (c .name) (c .received) (c .card) (c .names) in
-    let u = lentRows (c .book) (c .debits) (c .marks) in
+    let t = callRows (c .name) (c .received) (c .card) (c .names) (c .tst) in
+    let u = lentRows (c .book) (c .debits) (c .marks) (c .tst) in
     let a = cleared (not (isName (c .name))) CallFault.FileName (drop 1 t) (firstOf u CallCheck.Sound) e in
     let b = cleared (not (isMoment (c .received))) CallFault.ReceptionMoment (drop 2 t) (firstOf u CallCheck.Sound) (a .1) in
-    let d = cleared (not (isCard (c .card))) CallFault.CodeCard (drop 3 t) (firstOf u CallCheck.Sound) (b .1) in
+    let d = cleared (not (isCard (isLent (c .tst)) (c .card))) CallFault.CodeCard (drop 3 t) (firstOf u CallCheck.Sound) (b .1) in
     let f = cleared (not (namesWhole (c .names))) CallFault.ReceivedNames [] (firstOf u CallCheck.Sound) (d .1) in
     let g = cleared (not (bookSound width (c .book))) CallFault.Book (drop 1 u) CallCheck.Sound (last-row (firstOf u CallCheck.Sound) (f .1)) in
-    let h = cleared (not (debitsSound (c .debits) (c .marks))) CallFault.OpenDebits [] CallCheck.Sound (g .1) in
+    let h = cleared (not (debitsSound (c .debits) (c .marks))) CallFault.OpenDebits (drop 2 u) CallCheck.Sound (g .1) in
+    let t′ = cleared (not (tableSound (c .tst))) CallFault.StationTable [] CallCheck.Sound (h .1) in
     let n = not-false (isName (c .name)) (a .0) in
     let m = not-false (isMoment (c .received)) (b .0) in
-    let k = not-false (isCard (c .card)) (d .0) in
+    let k = not-false (isCard (isLent (c .tst)) (c .card)) (d .0) in
     record {
       nameForm = n;
       momentReal = m;
       cardForm = k;
       named = name-shows (c .name) n .long;
       dated = moment-long (c .received) m;
-      carded = card-long (c .card) k;
+      carded = card-long (isLent (c .tst)) (c .card) k;
       booked = not-false (bookSound width (c .book)) (g .0);
       owed = sound-is (c .debits) (c .marks) (not-false (debitsSound (c .debits) (c .marks)) (h .0));
+      tabled = not-false (tableSound (c .tst)) (t′ .0);
     }
 
 -- a verdict's word has its number, one of those in use
-number-known : (v : Verdict) → wordNumber (wordOf v) ≤ 8
+number-known : (v : Verdict) → wordNumber (wordOf v) ≤ 9
 number-known (Verdict.Covered place) = omega arith
 number-known (Verdict.Credits debit) = omega arith
 number-known Verdict.WrongType = omega arith
@@ -113,10 +119,19 @@ number-known Verdict.PlateOutOfForm = omega arith
 number-known Verdict.RepeatedLine = omega arith
 number-known Verdict.NotCovered = omega arith
 number-known Verdict.NoDebit = omega arith
+number-known Verdict.UnknownStation = omega arith
 
-words-known : (j : Judging) (marks : List ℕ) (n k : ℕ) → k < n → numberAt (wordsOf j marks n) k ≤ 8
+verdict-known : (j : Judging) (marks : List ℕ) (k : ℕ) → wordNumber (wordOf (verdictAt j marks k)) ≤ verdictsInUse (isLent (j .tst))
+unfolding verdictAt
+verdict-known j marks k = go (isLent (j .tst)) refl
+  where
+    go : (lent : Bool) → isLent (j .tst) ≡ lent → wordNumber (wordOf (verdictAt j marks k)) ≤ verdictsInUse lent
+    go true e = number-known (verdictAt j marks k)
+    go false e = omega (arith, word-number (verdictAt j marks k), unlent-number j (marksBefore j marks k) k e)
+
+words-known : (j : Judging) (marks : List ℕ) (n k : ℕ) → k < n → numberAt (wordsOf j marks n) k ≤ verdictsInUse (isLent (j .tst))
 unfolding wordsOf wordAt
-words-known j marks n k h = rw (table-at (wordAt j marks) n k 0 h) (number-known (verdictAt j marks k))
+words-known j marks n k h = rw (table-at (wordAt j marks) n k 0 h) (verdict-known j marks k)
 
 -- a file that is judged line by line
 module _ (c : Call) (s : CallSound c) (w : Whole) (file : fileOf c ≡ Acceptance.Judged w) where
@@ -129,11 +144,12 @@ module _ (c : Call) (s : CallSound c) (w : Whole) (file : fileOf c ≡ Acceptanc
   lines-there : linePlace tifLayout (w .lines) ≤ length (c .tif)
   lines-there = omega (arith, judged .framed .counted .long)
 
-  pub lines-ready : (words : List ℕ) → 9999 ≤ length words → LinesReady (c .name) (c .book) (c .debits) (c .marks) (c .tif) (w .lines) words
+  pub lines-ready : (words : List ℕ) → 9999 ≤ length words → LinesReady (c .name) (c .book) (c .debits) (c .marks) (c .tif) (c .tst) (w .lines) words
   lines-ready words room =
       record {
         named = s .named;
         given = record { booked = s .booked; owed = omega (arith, s .owed .long); few = s .owed .few; lined = lines-there };
+        tabled = s .tabled;
         few = lines-few;
         room = omega (arith, lines-few, room);
       }
@@ -152,11 +168,10 @@ module _ (c : Call) (s : CallSound c) (w : Whole) (file : fileOf c ≡ Acceptanc
   line-there k h = omega (arith, line-ends tifLayout (w .lines) k h, lines-there)
 
   -- the words of the file can be listed
-  pub list-ready : (j : Judging) → Listing.Worded (c .tif) (c .card) (wordsOf j (c .marks) (w .lines))
-  list-ready j =
+  pub list-ready : (j : Judging) → j .tst ≡ c .tst → Listing.Worded (c .tif) (c .card) (wordsOf j (c .marks) (w .lines))
+  list-ready j same =
       let e = words-length j (c .marks) (w .lines) in
       record {
         lined = λ k h. line-there k (omega (arith, e));
-        carded = s .carded;
-        known = λ k h. words-known j (c .marks) (w .lines) k (omega (arith, e));
+        known = λ k h. omega (arith, words-known j (c .marks) (w .lines) k (omega (arith, e)), ap (λ (t : List ℕ). verdictsInUse (isLent t)) same, s .carded);
       }

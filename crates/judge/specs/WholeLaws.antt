@@ -38,7 +38,7 @@ module _ (name received card tif : List ℕ) (a : FileAnswer) (room : ℕ) (out 
       let t : tooSmall (refusedFile a tif) room (length out) ≡ true = ap (λ (x : Summary). tooSmall x room (length out)) (sym is) ∙ small in
       record { answer = rw t; outThen = rw t }
 
-  pub file-room : Widths name received card → tooSmall s room (length out) ≡ false → (h : TicHead) → h ≡ headOf s → TicRoom name received card tif [] h out
+  pub file-room : Widths name received → tooSmall s room (length out) ≡ false → (h : TicHead) → h ≡ headOf s → TicRoom name received card tif [] h out
   unfolding refusedBefore sumBelow
   file-room w small h e =
       let l : s .length ≤ length out = ltb-false (length out) (s .length) (or-none-left (ltb (length out) (s .length)) (ltb room (s .lines)) small) in
@@ -46,7 +46,7 @@ module _ (name received card tif : List ℕ) (a : FileAnswer) (room : ℕ) (out 
       record {
         named = w .named;
         dated = w .dated;
-        worded = record { lined = λ k h. absurd (omega arith); carded = w .carded; known = λ k h. absurd (omega arith) };
+        worded = record { lined = λ k h. absurd (omega arith); known = λ k h. absurd (omega arith) };
         counted = ap (λ (x : TicHead). x .rejected .0) e ∙ ap (λ (x : Summary). x .refused) is;
         room = omega (arith, l, n);
       }
@@ -109,5 +109,5 @@ module _ (c : Call) (sound : checkOf c ≡ CallCheck.Sound) (a : FileAnswer) (n 
 pub no-lines : (c : Call) (x : Acceptance) → fileOf c ≡ x → linesToJudge x ≡ 0 → totalTold x ≡ 0 → NoLines c (fileAnswer x 0)
 no-lines c x e l t = record { none = ap linesToJudge e ∙ l; named = ap (λ (y : Acceptance). fileAnswer y 0) e; nothing = ap totalTold e ∙ t }
 
-pub widths : (c : Call) → checkOf c ≡ CallCheck.Sound → Widths (c .name) (c .received) (c .card)
-widths c e = let s = check-shows c e in record { named = s .named; dated = s .dated; carded = s .carded }
+pub widths : (c : Call) → checkOf c ≡ CallCheck.Sound → Widths (c .name) (c .received)
+widths c e = let s = check-shows c e in record { named = s .named; dated = s .dated }

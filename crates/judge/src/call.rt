@@ -16,10 +16,11 @@ pub fn judge(
     debits: &[u8],
     marks: &mut [u8],
     tif: &[u8],
+    tst: &[u8],
     records: &mut [Record],
     out: &mut [u8],
 ) -> Answer
-    ensures { λ r. ⌜ Judged (callOf (now (name .entry)) (now (received .entry)) (now (card .entry)) (now (names .entry)) (now (book .entry)) (now (debits .entry)) (now (marks .entry)) (now (tif .entry)) (length (now (records .entry))) (now (out .entry))) (now (records .entry)) r (now (marks .exit)) (now (records .exit)) (now (out .exit)) ⌝ }
+    ensures { λ r. ⌜ Judged (callOf (now (name .entry)) (now (received .entry)) (now (card .entry)) (now (names .entry)) (now (book .entry)) (now (debits .entry)) (now (marks .entry)) (now (tif .entry)) (now (tst .entry)) (length (now (records .entry))) (now (out .entry))) (now (records .entry)) r (now (marks .exit)) (now (records .exit)) (now (out .exit)) ⌝ }
 {
     let mut words = [0u64; 9999];
     let room = records.len();
@@ -32,6 +33,7 @@ pub fn judge(
         debits,
         &mut *marks,
         tif,
+        tst,
         room,
         &mut words,
         &mut *out,

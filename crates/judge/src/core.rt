@@ -33,11 +33,12 @@ fn judge_parts(
     m: usize,
     mine: &mut [u8],
     tif: &[u8],
+    tst: &[u8],
     n: usize,
     words: &mut [u64],
 )
-    requires { ⌜ LinesReady (now name) (now book) (now debits) (take m (now mine)) (now tif) n (now words) × (m ≤ length (now mine)) ⌝ }
-    ensures { λ _. ⌜ Filled (now (name .entry)) (now (book .entry)) (now (debits .entry)) (take m (now (mine .entry))) (now (tif .entry)) n (now (words .entry)) (now (mine .exit)) (now (words .exit)) ⌝ }
+    requires { ⌜ LinesReady (now name) (now book) (now debits) (take m (now mine)) (now tif) (now tst) n (now words) × (m ≤ length (now mine)) ⌝ }
+    ensures { λ _. ⌜ Filled (now (name .entry)) (now (book .entry)) (now (debits .entry)) (take m (now (mine .entry))) (now (tif .entry)) (now (tst .entry)) n (now (words .entry)) (now (mine .exit)) (now (words .exit)) ⌝ }
 {
     judge_lines(
         side_of(tif),
@@ -46,6 +47,7 @@ fn judge_parts(
         debits,
         &mut mine[0..m],
         tif,
+        tst,
         &mut words[0..n],
     );
 }
@@ -58,15 +60,16 @@ fn judge_all(
     marks: &[u8],
     mine: &mut [u8; 9999],
     tif: &[u8],
+    tst: &[u8],
     n: usize,
     words: &mut [u64],
 )
-    requires { ⌜ LinesReady (now name) (now book) (now debits) (now marks) (now tif) n (now words) ⌝ }
-    ensures { λ _. ⌜ Filled (now (name .entry)) (now (book .entry)) (now (debits .entry)) (now (marks .entry)) (now (tif .entry)) n (now (words .entry)) (now (mine .exit)) (now (words .exit)) ⌝ }
+    requires { ⌜ LinesReady (now name) (now book) (now debits) (now marks) (now tif) (now tst) n (now words) ⌝ }
+    ensures { λ _. ⌜ Filled (now (name .entry)) (now (book .entry)) (now (debits .entry)) (now (marks .entry)) (now (tif .entry)) (now (tst .entry)) n (now (words .entry)) (now (mine .exit)) (now (words .exit)) ⌝ }
 {
     let m = marks.len();
     put_bytes(mine, 0, marks);
-    judge_parts(name, book, debits, m, mine, tif, n, words);
+    judge_parts(name, book, debits, m, mine, tif, tst, n, words);
 }
 
 // Writes the marks and the TIC of a judged file, once nothing can be refused any more.
@@ -107,18 +110,19 @@ fn judge_file(
     debits: &[u8],
     marks: &mut [u8],
     tif: &[u8],
+    tst: &[u8],
     whole: Whole,
     room: usize,
     words: &mut [u64],
     out: &mut [u8],
 ) -> Answer
-    requires { ⌜ FileReady (callOf (now name) (now received) (now card) (now names) (now book) (now debits) (now marks) (now tif) room (now out)) whole (now words) ⌝ }
-    ensures { λ r. ⌜ CallTried (callOf (now (name .entry)) (now (received .entry)) (now (card .entry)) (now (names .entry)) (now (book .entry)) (now (debits .entry)) (now (marks .entry)) (now (tif .entry)) room (now (out .entry))) (now (words .entry)) r (now (marks .exit)) (now (words .exit)) (now (out .exit)) ⌝ }
+    requires { ⌜ FileReady (callOf (now name) (now received) (now card) (now names) (now book) (now debits) (now marks) (now tif) (now tst) room (now out)) whole (now words) ⌝ }
+    ensures { λ r. ⌜ CallTried (callOf (now (name .entry)) (now (received .entry)) (now (card .entry)) (now (names .entry)) (now (book .entry)) (now (debits .entry)) (now (marks .entry)) (now (tif .entry)) (now (tst .entry)) room (now (out .entry))) (now (words .entry)) r (now (marks .exit)) (now (words .exit)) (now (out .exit)) ⌝ }
 {
     let n = whole.lines;
     let m = marks.len();
     let mut mine = [0u8; 9999];
-    judge_all(name, book, debits, marks, &mut mine, tif, n, words);
+    judge_all(name, book, debits, marks, &mut mine, tif, tst, n, words);
     let s = summarize(tif, &words[0..n], whole);
     if is_too_small(s, room, out.len()) {
         return Answer::Refused(CallFault::Room);
@@ -147,7 +151,7 @@ fn refuse_file(
     room: usize,
     out: &mut [u8],
 ) -> Answer
-    requires { ⌜ Widths (now name) (now received) (now card) ⌝ }
+    requires { ⌜ Widths (now name) (now received) ⌝ }
     ensures { λ r. ⌜ FileRefused (now (name .entry)) (now (received .entry)) (now (card .entry)) (now (tif .entry)) (refusedFile answer (now (tif .entry))) room (now (out .entry)) r (now (out .exit)) ⌝ }
 {
     let s = summarize_refused(tif, answer);
@@ -168,7 +172,7 @@ fn refuse_file(
     Answer::Answered(s)
 }
 
-// The answer of a call that E1 to E6 let pass.
+// The answer of a call that E1 to E6 and E8 let pass.
 fn judge_sound(
     name: &[u8],
     received: &[u8],
@@ -178,12 +182,13 @@ fn judge_sound(
     debits: &[u8],
     marks: &mut [u8],
     tif: &[u8],
+    tst: &[u8],
     room: usize,
     words: &mut [u64],
     out: &mut [u8],
 ) -> Answer
-    requires { ⌜ SoundReady (callOf (now name) (now received) (now card) (now names) (now book) (now debits) (now marks) (now tif) room (now out)) (now words) ⌝ }
-    ensures { λ r. ⌜ CallTried (callOf (now (name .entry)) (now (received .entry)) (now (card .entry)) (now (names .entry)) (now (book .entry)) (now (debits .entry)) (now (marks .entry)) (now (tif .entry)) room (now (out .entry))) (now (words .entry)) r (now (marks .exit)) (now (words .exit)) (now (out .exit)) ⌝ }
+    requires { ⌜ SoundReady (callOf (now name) (now received) (now card) (now names) (now book) (now debits) (now marks) (now tif) (now tst) room (now out)) (now words) ⌝ }
+    ensures { λ r. ⌜ CallTried (callOf (now (name .entry)) (now (received .entry)) (now (card .entry)) (now (names .entry)) (now (book .entry)) (now (debits .entry)) (now (marks .entry)) (now (tif .entry)) (now (tst .entry)) room (now (out .entry))) (now (words .entry)) r (now (marks .exit)) (now (words .exit)) (now (out .exit)) ⌝ }
 {
     match acceptance_of(name, names, tif) {
         Acceptance::Judged(whole) => judge_file(
@@ -195,6 +200,7 @@ fn judge_sound(
             debits,
             marks,
             tif,
+            tst,
             whole,
             room,
             words,
@@ -249,14 +255,15 @@ pub fn try_call(
     debits: &[u8],
     marks: &mut [u8],
     tif: &[u8],
+    tst: &[u8],
     room: usize,
     words: &mut [u64],
     out: &mut [u8],
 ) -> Answer
     requires { ⌜ 9999 ≤ length (now words) ⌝ }
-    ensures { λ r. ⌜ CallTried (callOf (now (name .entry)) (now (received .entry)) (now (card .entry)) (now (names .entry)) (now (book .entry)) (now (debits .entry)) (now (marks .entry)) (now (tif .entry)) room (now (out .entry))) (now (words .entry)) r (now (marks .exit)) (now (words .exit)) (now (out .exit)) ⌝ }
+    ensures { λ r. ⌜ CallTried (callOf (now (name .entry)) (now (received .entry)) (now (card .entry)) (now (names .entry)) (now (book .entry)) (now (debits .entry)) (now (marks .entry)) (now (tif .entry)) (now (tst .entry)) room (now (out .entry))) (now (words .entry)) r (now (marks .exit)) (now (words .exit)) (now (out .exit)) ⌝ }
 {
-    match check_call(name, received, card, names, book, debits, marks) {
+    match check_call(name, received, card, names, book, debits, marks, tst) {
         CallCheck::Faulty(fault) => Answer::Refused(fault),
         CallCheck::Sound => judge_sound(
             name,
@@ -267,6 +274,7 @@ pub fn try_call(
             debits,
             marks,
             tif,
+            tst,
             room,
             words,
             out,

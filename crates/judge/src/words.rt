@@ -29,11 +29,12 @@ pub fn judge_words(
     debits: &[u8],
     marks: &mut [u8],
     tif: &[u8],
+    tst: &[u8],
     room: usize,
     words: &mut [u64; 9999],
     out: &mut [u8],
 ) -> Answer
-    ensures { λ r. ⌜ WordsJudged (callOf (now (name .entry)) (now (received .entry)) (now (card .entry)) (now (names .entry)) (now (book .entry)) (now (debits .entry)) (now (marks .entry)) (now (tif .entry)) room (now (out .entry))) (now (words .entry)) r (now (marks .exit)) (now (words .exit)) (now (out .exit)) ⌝ }
+    ensures { λ r. ⌜ WordsJudged (callOf (now (name .entry)) (now (received .entry)) (now (card .entry)) (now (names .entry)) (now (book .entry)) (now (debits .entry)) (now (marks .entry)) (now (tif .entry)) (now (tst .entry)) room (now (out .entry))) (now (words .entry)) r (now (marks .exit)) (now (words .exit)) (now (out .exit)) ⌝ }
 {
     let mut tried = [0u64; 9999];
     let answer = try_call(
@@ -45,6 +46,7 @@ pub fn judge_words(
         debits,
         marks,
         tif,
+        tst,
         room,
         &mut tried,
         out,

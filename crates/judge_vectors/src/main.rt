@@ -139,6 +139,7 @@ fn run_call(
     debits: &[u8],
     marks: &mut [u8],
     tif: &[u8],
+    tst: &[u8],
     out: &mut [u8],
 ) {
     let mut words = [0u64; 9999];
@@ -151,6 +152,7 @@ fn run_call(
         debits,
         marks,
         tif,
+        tst,
         room,
         &mut words,
         out,
@@ -161,17 +163,19 @@ fn run_call(
     print_output(out);
 }
 
-// The rest of a case: book, debits, marks, TIF and output; false where it breaks off or a part is too long.
+// The rest of a case: book, debits, marks, TIF, station table and output; false where it breaks off or a part is too long.
 fn run_lent(name: &[u8], received: &[u8], card: &[u8], names: &[u8], room: usize) -> bool {
     let mut book = [0u8; 4096];
     let mut debits = [0u8; 16200];
     let mut marks = [0u8; MOST];
     let mut tif = [0u8; 16500];
+    let mut tst = [0u8; 3000];
     let mut out = [0u8; 16600];
     let book_part = read_part(&mut book);
     let debits_part = read_part(&mut debits);
     let marks_part = read_part(&mut marks);
     let tif_part = read_part(&mut tif);
+    let tst_part = read_part(&mut tst);
     let out_part = read_part(&mut out);
     if !out_part.whole {
         return false;
@@ -180,7 +184,8 @@ fn run_lent(name: &[u8], received: &[u8], card: &[u8], names: &[u8], room: usize
     let b = debits_part.size;
     let c = marks_part.size;
     let d = tif_part.size;
-    let e = out_part.size;
+    let e = tst_part.size;
+    let f = out_part.size;
     run_call(
         name,
         received,
@@ -191,7 +196,8 @@ fn run_lent(name: &[u8], received: &[u8], card: &[u8], names: &[u8], room: usize
         &debits[0..b],
         &mut marks[0..c],
         &tif[0..d],
-        &mut out[0..e],
+        &tst[0..e],
+        &mut out[0..f],
     );
     true
 }

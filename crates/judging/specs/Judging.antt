@@ -1,4 +1,4 @@
--- The verdict on each line of a file, L1 to L8, and the marks after each. Lines are counted from 0 here. Assumes nothing.
+-- The verdict on each line of a file, L1 to L9, and the marks after each. Lines are counted from 0 here. Assumes nothing.
 use mathlib.Core.Bool.{Bool, true, false, not, _&&_, cond}
 use mathlib.Core.List.{List, [], _∷_, _++_}
 use Prim.Native.Nat.{ℕ}
@@ -9,6 +9,7 @@ use Rattle.passage.specs.Passage.{pan, exitMoment, detectedPlate, detectedNatio
 use Rattle.tif.specs.Body.{lineAt}
 use Rattle.tif.specs.declared.side.Side.{Side}
 use Rattle.tif.specs.declared.side.Side.the-variants.{Credit, Debit, Neither}
+use Rattle.tst.specs.Stations.{isKnownStation}
 use Rattle.book.specs.Cover.{coverOf}
 use Rattle.book.specs.Layout.{width}
 use Rattle.book.specs.declared.cover.Cover.{Cover}
@@ -17,6 +18,7 @@ use Rattle.debits.specs.Credits.{marksAfter}
 use Rattle.debits.specs.Taking.{taken, tookDebit, marksThen}
 use Rattle.debits.specs.declared.taking.Taken.{Taken}
 use Rattle.verdicts.specs.LineTests.{lineRows, testLine, passes}
+use Rattle.verdicts.specs.declared.line_tests.LineTest.{LineTest}
 use Rattle.verdicts.specs.Verdict.{wordOf}
 use Rattle.verdicts.specs.declared.verdict.Verdict.{Verdict}
 use Rattle.verdicts.specs.declared.verdict.Verdict.the-variants.{Covered, Credits, WrongType, RepeatedLine, NotCovered, NoDebit}
@@ -28,9 +30,10 @@ pub record Judging : Type 0 where
   pub book : List ℕ
   pub debits : List ℕ
   pub tif : List ℕ
+  pub tst : List ℕ
 
-abbrev pub judging : Side → List ℕ → List ℕ → List ℕ → List ℕ → Judging
-judging side sender book debits tif = record { side = side; sender = sender; book = book; debits = debits; tif = tif }
+abbrev pub judging : Side → List ℕ → List ℕ → List ℕ → List ℕ → List ℕ → Judging
+judging side sender book debits tif tst = record { side = side; sender = sender; book = book; debits = debits; tif = tif; tst = tst }
 
 abbrev pub isDebitFile : Side → Bool
 isDebitFile Credit = false
@@ -68,7 +71,7 @@ abbrev pub creditOf : Taken → Verdict
 creditOf (Taken.Debit debit) = Credits debit
 creditOf Taken.NoDebit = NoDebit
 
--- a debit that passed L1 to L5: L6, L7, or covered
+-- a debit that passed L1 to L5 and L9: L6, L7, or covered
 abbrev pub debitVerdict : Bool → Cover → Verdict
 debitVerdict repeated cover = cond repeated RepeatedLine (coveredBy cover)
 
@@ -86,7 +89,7 @@ acceptedBy Credit cover took = creditOf took
 acceptedBy Debit cover took = coveredBy cover
 acceptedBy Neither cover took = WrongType
 
--- the verdict on a line that has passed L1 to L5
+-- the verdict on a line that has passed L1 to L5 and L9
 unfoldable pub passedVerdict : Side → Bool → Cover → Taken → Verdict
 passedVerdict side repeated cover took = firstOf (fileRows side repeated cover took) (acceptedBy side cover took)
 
@@ -94,9 +97,17 @@ passedVerdict side repeated cover took = firstOf (fileRows side repeated cover t
 abbrev pub takenOn : Judging → List ℕ → ℕ → Taken
 takenOn j marks k = taken (j .debits) marks (lineAt (j .tif) k)
 
+-- L9: the station table lent has the station of line k, or none is lent
+abbrev pub knownOn : Judging → ℕ → Bool
+knownOn j k = isKnownStation (j .tst) (lineAt (j .tif) k)
+
+-- the first test that line k fails before those that look at the file, the book and the debits
+abbrev pub testOn : Judging → ℕ → LineTest
+testOn j k = testLine (j .side) (j .sender) (knownOn j k) (lineAt (j .tif) k)
+
 -- all the tests of line k in order, where the marks are these
 abbrev pub allRows : Judging → List ℕ → ℕ → List (Row Verdict)
-allRows j marks k = lineRows (j .side) (j .sender) (lineAt (j .tif) k) ++ fileRows (j .side) (repeatedAt (j .tif) k) (coverOn (j .book) (lineAt (j .tif) k)) (takenOn j marks k)
+allRows j marks k = lineRows (j .side) (j .sender) (knownOn j k) (lineAt (j .tif) k) ++ fileRows (j .side) (repeatedAt (j .tif) k) (coverOn (j .book) (lineAt (j .tif) k)) (takenOn j marks k)
 
 -- the verdict on line k where the marks are these: the first test that applies decides
 unfoldable pub verdictOn : Judging → List ℕ → ℕ → Verdict
@@ -105,7 +116,7 @@ verdictOn j marks k = firstOf (allRows j marks k) (acceptedBy (j .side) (coverOn
 -- ---- the marks along the lines
 -- line k passes every test before L8, in a CRE file
 unfoldable pub reachesAt : Judging → ℕ → Bool
-reachesAt j k = isCreditFile (j .side) && passes (testLine (j .side) (j .sender) (lineAt (j .tif) k))
+reachesAt j k = isCreditFile (j .side) && passes (testOn j k)
 
 -- the marks after line k, where those before it are these
 unfoldable pub marksNext : Judging → List ℕ → ℕ → List ℕ

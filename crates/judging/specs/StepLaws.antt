@@ -30,7 +30,7 @@ use Rattle.verdicts.specs.declared.line_tests.LineTest.{LineTest}
 use Rattle.verdicts.specs.declared.line_tests.LineTest.the-variants.{Fails, Passes}
 use Rattle.verdicts.specs.declared.verdict.Verdict.{Verdict}
 use Rattle.verdicts.specs.declared.verdict.Verdict.the-variants.{WrongType}
-use Rattle.judging.specs.Judging.{Judging, isCreditFile, repeatedAt, coverOn, coveredBy, creditOf, debitVerdict, fileRows, passedVerdict, takenOn, verdictOn, reachesAt, marksNext, marksBefore, verdictAt, wordAt}
+use Rattle.judging.specs.Judging.{Judging, isCreditFile, repeatedAt, coverOn, coveredBy, creditOf, debitVerdict, fileRows, passedVerdict, takenOn, knownOn, testOn, verdictOn, reachesAt, marksNext, marksBefore, verdictAt, wordAt}
 use Rattle.judging.specs.Steps.{CreditJudged, PassedJudged, Judged, Stepped}
 
 -- line k of a file that has k + 1 lines is a whole line
@@ -99,11 +99,11 @@ module _ (j : Judging) (marks : List ℕ) (k : ℕ) where
   abbrev line : List ℕ
   line = lineAt (j .tif) k
 
-  pub fails-reaches : (v : Verdict) → testLine (j .side) (j .sender) line ≡ Fails v → reachesAt j k ≡ false
+  pub fails-reaches : (v : Verdict) → testOn j k ≡ Fails v → reachesAt j k ≡ false
   unfolding reachesAt
   fails-reaches v e = ap (λ (t : LineTest). isCreditFile (j .side) && passes t) e ∙ and-false-right (isCreditFile (j .side)) false refl
 
-  pub passes-reaches : testLine (j .side) (j .sender) line ≡ Passes → reachesAt j k ≡ isCreditFile (j .side)
+  pub passes-reaches : testOn j k ≡ Passes → reachesAt j k ≡ isCreditFile (j .side)
   unfolding reachesAt
   passes-reaches e = ap (λ (t : LineTest). isCreditFile (j .side) && passes t) e ∙ and-one (isCreditFile (j .side))
 
@@ -111,16 +111,16 @@ module _ (j : Judging) (marks : List ℕ) (k : ℕ) where
   unfolding marksNext
   next-by b e = rw e
 
-  pub fails-verdict : (v : Verdict) → testLine (j .side) (j .sender) line ≡ Fails v → v ≡ verdictOn j marks k
+  pub fails-verdict : (v : Verdict) → testOn j k ≡ Fails v → v ≡ verdictOn j marks k
   unfolding testLine verdictOn
-  fails-verdict v e = fails-first _ _ (lineRows (j .side) (j .sender) line) v e
+  fails-verdict v e = fails-first _ _ (lineRows (j .side) (j .sender) (knownOn j k) line) v e
 
-  pub passes-verdict : testLine (j .side) (j .sender) line ≡ Passes → verdictOn j marks k ≡ passedVerdict (j .side) (repeatedAt (j .tif) k) (coverOn (j .book) line) (takenOn j marks k)
+  pub passes-verdict : testOn j k ≡ Passes → verdictOn j marks k ≡ passedVerdict (j .side) (repeatedAt (j .tif) k) (coverOn (j .book) line) (takenOn j marks k)
   unfolding testLine verdictOn passedVerdict
-  passes-verdict e = passes-on (fileRows (j .side) (repeatedAt (j .tif) k) (coverOn (j .book) line) (takenOn j marks k)) _ (lineRows (j .side) (j .sender) line) e
+  passes-verdict e = passes-on (fileRows (j .side) (repeatedAt (j .tif) k) (coverOn (j .book) line) (takenOn j marks k)) _ (lineRows (j .side) (j .sender) (knownOn j k) line) e
 
-  -- it fails one of L1 to L5: that decides, and no mark is touched
-  pub fails-judged : (v : Verdict) → testLine (j .side) (j .sender) line ≡ Fails v → Judged j marks k v marks
+  -- it fails one of L1 to L5 or L9: that decides, and no mark is touched
+  pub fails-judged : (v : Verdict) → testOn j k ≡ Fails v → Judged j marks k v marks
   fails-judged v e =
       record {
         verdict = fails-verdict v e;
@@ -128,7 +128,7 @@ module _ (j : Judging) (marks : List ℕ) (k : ℕ) where
       }
 
   -- it passes them: the tests of the file decide
-  pub passes-judged : (v : Verdict) (after : List ℕ) → testLine (j .side) (j .sender) line ≡ Passes
+  pub passes-judged : (v : Verdict) (after : List ℕ) → testOn j k ≡ Passes
       → PassedJudged (j .side) (j .book) (j .debits) marks (j .tif) k v after → Judged j marks k v after
   passes-judged v after e p =
       record {

@@ -23,12 +23,12 @@ pub record Given (book debits marks tif : List ℕ) (n : ℕ) : Type 0 where
   pub few : length marks ≤ mostLines
   pub lined : linePlace tifLayout n ≤ length tif
 
--- a credit judged that passed L1 to L5
+-- a credit judged that passed L1 to L5 and L9
 pub record CreditJudged (debits marks credit : List ℕ) (v : Verdict) (after : List ℕ) : Type 0 where
   pub verdict : v ≡ creditOf (taken debits marks credit)
   pub marked : after ≡ marksThen marks (taken debits marks credit)
 
--- a line judged that passed L1 to L5
+-- a line judged that passed L1 to L5 and L9
 pub record PassedJudged (side : Side) (book debits marks tif : List ℕ) (k : ℕ) (v : Verdict) (after : List ℕ) : Type 0 where
   pub verdict : v ≡ passedVerdict side (repeatedAt tif k) (coverOn book (lineAt tif k)) (taken debits marks (lineAt tif k))
   pub marked : after ≡ cond (isCreditFile side) (marksThen marks (taken debits marks (lineAt tif k))) marks

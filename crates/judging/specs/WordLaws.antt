@@ -1,5 +1,5 @@
--- What each verdict carries fits its word, so that the word gives the verdict back. Assumes nothing.
-use mathlib.Core.Path.{_≡_, refl, sym, ap}
+-- What each verdict carries fits its word, so that the word gives the verdict back; and L9 is in use only where a station table is lent. Assumes nothing.
+use mathlib.Core.Path.{_≡_, refl, sym, ap, _∙_}
 use mathlib.Core.Bool.{Bool, true, false, _&&_, cond}
 use mathlib.Core.List.{List}
 use Prim.Native.Nat.{ℕ, _+_, _≤_, _<_}
@@ -11,6 +11,8 @@ use Rattle.lines.specs.Rows.{mostLines}
 use Rattle.tif.specs.Body.{lineAt}
 use Rattle.tif.specs.declared.side.Side.{Side}
 use Rattle.tif.specs.declared.side.Side.the-variants.{Credit, Debit, Neither}
+use Rattle.tst.specs.Form.{isLent}
+use Rattle.tst.specs.Stations.{unlent-known}
 use Rattle.book.specs.Cover.{Asked, coveringPeriod, hasCover, coverIn, coverOf}
 use Rattle.book.specs.Form.{bookSound}
 use Rattle.book.specs.FormLaws.{whole-is}
@@ -23,13 +25,13 @@ use Rattle.debits.specs.TakingLaws.{taken-number}
 use Rattle.debits.specs.Taking.{taken}
 use Rattle.debits.specs.declared.taking.Taken.{Taken}
 use Rattle.verdicts.specs.LineTests.{testLine}
-use Rattle.verdicts.specs.LineTestsLaws.{line-refuses}
-use Rattle.verdicts.specs.Verdict.{verdictOf, Placed, InWord}
+use Rattle.verdicts.specs.LineTestsLaws.{line-refuses, known-number}
+use Rattle.verdicts.specs.Verdict.{verdictNumber, verdictOf, Placed, InWord}
 use Rattle.verdicts.specs.VerdictLaws.{refusal-fits, word-back}
 use Rattle.verdicts.specs.declared.line_tests.LineTest.{LineTest}
 use Rattle.verdicts.specs.declared.line_tests.LineTest.the-variants.{Fails, Passes}
 use Rattle.verdicts.specs.declared.verdict.Verdict.the-variants.{Covered, Credits, WrongType, RepeatedLine, NotCovered, NoDebit}
-use Rattle.judging.specs.Judging.{Judging, repeatedAt, coverOn, coveredBy, creditOf, passedVerdict, takenOn, verdictOn, reachesAt, marksBefore, verdictAt, wordAt}
+use Rattle.judging.specs.Judging.{Judging, repeatedAt, coverOn, coveredBy, creditOf, passedVerdict, takenOn, knownOn, testOn, verdictOn, reachesAt, marksBefore, verdictAt, wordAt}
 use Rattle.judging.specs.StepLaws.{passed-credit, passed-debit, passed-neither, fails-verdict, passes-verdict}
 
 -- a place of a sound book has one of 1,000 agreements and one of 64 periods
@@ -89,10 +91,10 @@ module _ (j : Judging) (marks : List ℕ) (k : ℕ) (s : bookSound width (j .boo
 
   -- every verdict on a line fits a word
   pub verdict-fits : InWord (verdictOn j marks k)
-  verdict-fits = go (testLine (j .side) (j .sender) (lineAt (j .tif) k)) refl
+  verdict-fits = go (testOn j k) refl
     where
-      go : (t : LineTest) → testLine (j .side) (j .sender) (lineAt (j .tif) k) ≡ t → InWord (verdictOn j marks k)
-      go (Fails v) e = rw (sym (fails-verdict j marks k v e)) (refusal-fits v (line-refuses (j .side) (j .sender) (lineAt (j .tif) k) v e))
+      go : (t : LineTest) → testOn j k ≡ t → InWord (verdictOn j marks k)
+      go (Fails v) e = rw (sym (fails-verdict j marks k v e)) (refusal-fits v (line-refuses (j .side) (j .sender) (knownOn j k) (lineAt (j .tif) k) v e))
       go Passes e = rw (passes-verdict j marks k e) (passed-fits (j .side) (repeatedAt (j .tif) k))
 
 -- the word of a line gives its verdict back
@@ -101,3 +103,30 @@ unfolding wordAt verdictAt
 word-verdict j marks k s few =
     let l : length (marksBefore j marks k) ≤ mostLines = rw (after-length (j .debits) (lineAt (j .tif)) (reachesAt j) marks k) few in
     word-back (verdictOn j (marksBefore j marks k) k) (verdict-fits j (marksBefore j marks k) k s l)
+
+-- ---- the numbers in use
+-- past L1 to L5 and L9 a verdict is one of L6 to L8 or an acceptance
+passed-number : (side : Side) (repeated : Bool) (cover : Cover) (took : Taken) → verdictNumber (passedVerdict side repeated cover took) < 9
+passed-number Credit repeated cover took = rw (passed-credit repeated cover took) (go took)
+  where
+    go : (t : Taken) → verdictNumber (creditOf t) < 9
+    go (Taken.Debit debit) = omega arith
+    go Taken.NoDebit = omega arith
+passed-number Debit true cover took = rw (passed-debit true cover took) (omega arith)
+passed-number Debit false cover took = rw (passed-debit false cover took) (go cover)
+  where
+    go : (c : Cover) → verdictNumber (coveredBy c) < 9
+    go (At place) = omega arith
+    go Nothing = omega arith
+passed-number Neither repeated cover took = rw (passed-neither repeated cover took) (omega arith)
+
+-- with no station table lent no line is refused by L9
+pub unlent-number : (j : Judging) (marks : List ℕ) (k : ℕ) → isLent (j .tst) ≡ false → verdictNumber (verdictOn j marks k) < 9
+unlent-number j marks k e = go (testOn j k) refl
+  where
+    known : testOn j k ≡ testLine (j .side) (j .sender) true (lineAt (j .tif) k)
+    known = ap (λ (b : Bool). testLine (j .side) (j .sender) b (lineAt (j .tif) k)) (unlent-known (j .tst) (lineAt (j .tif) k) e)
+
+    go : (t : LineTest) → testOn j k ≡ t → verdictNumber (verdictOn j marks k) < 9
+    go (Fails v) f = rw (sym (fails-verdict j marks k v f)) (omega (arith, known-number (j .side) (j .sender) (lineAt (j .tif) k) v (sym known ∙ f)))
+    go Passes f = rw (passes-verdict j marks k f) (passed-number (j .side) (repeatedAt (j .tif) k) (coverOn (j .book) (lineAt (j .tif) k)) (takenOn j marks k))

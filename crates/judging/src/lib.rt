@@ -1,4 +1,4 @@
-// The lines of a TIF judged in order, L1 to L8: each into its word, with the marks that result; and the sums of what was accepted and refused.
+// The lines of a TIF judged in order, L1 to L9: each into its word, with the marks that result; and the sums of what was accepted and refused.
 mod file;
 mod line;
 mod sums;

@@ -11,6 +11,7 @@ use passage::PAN;
 use passage::REPEAT_SPANS;
 use tif::Side;
 use tif::tif_line;
+use tst::is_known_station;
 use verdicts::LineTest;
 use verdicts::Verdict;
 use verdicts::test_line;
@@ -22,6 +23,7 @@ ghost use Rattle.lines.specs.Rows.{linePlace};
 ghost use Rattle.passage.specs.Passage.{lineWidth};
 ghost use Rattle.tif.specs.Body.{lineAt};
 ghost use Rattle.tif.specs.Columns.{tifLayout};
+ghost use Rattle.tst.specs.Stations.{StationsIndexed};
 ghost use Rattle.book.specs.Form.{bookSound};
 ghost use Rattle.book.specs.Layout.{width};
 ghost use Rattle.debits.specs.Taking.{Lent};
@@ -65,7 +67,7 @@ fn cover_on(book: &[u8], line: &[u8]) -> Cover
     )
 }
 
-// The verdict on a debit that passes L1 to L5.
+// The verdict on a debit that passes L1 to L5 and L9.
 fn judge_debit(book: &[u8], tif: &[u8], k: usize) -> Verdict
     requires { ⌜ (bookSound width (now book) ≡ true) × (linePlace tifLayout (k + 1) ≤ length (now tif)) ⌝ }
     ensures { λ r. ⌜ r ≡ debitVerdict (repeatedAt (now (tif .entry)) k) (coverOn (now (book .entry)) (lineAt (now (tif .entry)) k)) ⌝ }
@@ -79,7 +81,7 @@ fn judge_debit(book: &[u8], tif: &[u8], k: usize) -> Verdict
     }
 }
 
-// The verdict on a credit that passes L1 to L5: L8. The debit that it takes is marked.
+// The verdict on a credit that passes L1 to L5 and L9: L8. The debit that it takes is marked.
 fn judge_credit(debits: &[u8], marks: &mut [u8], line: &[u8]) -> Verdict
     requires { ⌜ Lent (now debits) (now marks) (now line) ⌝ }
     ensures { λ r. ⌜ CreditJudged (now (debits .entry)) (now (marks .entry)) (now (line .entry)) r (now (marks .exit)) ⌝ }
@@ -90,7 +92,7 @@ fn judge_credit(debits: &[u8], marks: &mut [u8], line: &[u8]) -> Verdict
     }
 }
 
-// The verdict on line k once it has passed L1 to L5.
+// The verdict on line k once it has passed L1 to L5 and L9.
 fn judge_passed(
     side: Side,
     book: &[u8],
@@ -109,7 +111,7 @@ fn judge_passed(
     }
 }
 
-// The verdict on line k. A credit that fails one of L1 to L5 takes no debit.
+// The verdict on line k. A credit that fails one of L1 to L5 or L9 takes no debit.
 pub fn judge_line(
     side: Side,
     sender: &[u8],
@@ -117,12 +119,17 @@ pub fn judge_line(
     debits: &[u8],
     marks: &mut [u8],
     tif: &[u8],
+    tst: &[u8],
+    heads: &[u16; 16384],
+    prev: &[u16; 9999],
     k: usize,
 ) -> Verdict
-    requires { ⌜ Given (now book) (now debits) (now marks) (now tif) (k + 1) ⌝ }
-    ensures { λ r. ⌜ Judged (judging side (now (sender .entry)) (now (book .entry)) (now (debits .entry)) (now (tif .entry))) (now (marks .entry)) k r (now (marks .exit)) ⌝ }
+    requires { ⌜ Given (now book) (now debits) (now marks) (now tif) (k + 1) × StationsIndexed (now tst) (now heads) (now prev) ⌝ }
+    ensures { λ r. ⌜ Judged (judging side (now (sender .entry)) (now (book .entry)) (now (debits .entry)) (now (tif .entry)) (now (tst .entry))) (now (marks .entry)) k r (now (marks .exit)) ⌝ }
 {
-    match test_line(tif_line(tif, k), side, sender) {
+    let line = tif_line(tif, k);
+    let known = is_known_station(tst, heads, prev, line);
+    match test_line(line, side, sender, known) {
         LineTest::Fails(v) => v,
         LineTest::Passes => judge_passed(side, book, debits, marks, tif, k),
     }

@@ -69,7 +69,7 @@ fn print_sums(sums: Sums) {
     print_line_feed();
 }
 
-// Judges as many lines of the file as there are words.
+// Judges as many lines of the file as there are words, with no station table lent.
 fn run_lines(
     sender: &[u8],
     book: &[u8],
@@ -80,7 +80,17 @@ fn run_lines(
 )
     requires { ⌜ Given (now book) (now debits) (now marks) (now tif) (length (now words)) × Ready (now tif) (length (now words)) ⌝ }
 {
-    judge_lines(side_of(tif), sender, book, debits, marks, tif, words);
+    let none = [0u8; 1];
+    judge_lines(
+        side_of(tif),
+        sender,
+        book,
+        debits,
+        marks,
+        tif,
+        &none[0..0],
+        words,
+    );
     print_words(words);
     print_stroke();
     print_marks(marks);

@@ -72,6 +72,12 @@ module _ (p : ℕ → Bool) where
       (λ e. or-true-right (someBelow k p) (p k) (ap p (sym e) ∙ f))
       (λ l. or-true-left (someBelow k p) (p k) (some-hit k i l f))
 
+  -- what holds of none below k is not found
+  pub some-each : (k : ℕ) → ((i : ℕ) → i < k → p i ≡ false) → someBelow k p ≡ false
+  unfolding someBelow
+  some-each zero each = refl
+  some-each (suc k) each = or-false (someBelow k p) (p k) (some-each k (λ i h. each i (omega arith))) (each k (omega arith))
+
   pub some-none : (k : ℕ) → someBelow k p ≡ false → (i : ℕ) → i < k → p i ≡ false
   unfolding someBelow
   some-none zero a i h = absurd (not-suc-le-zero h)

@@ -18,14 +18,15 @@ use Rattle.answers.specs.declared.answer.FileAnswer.{FileAnswer}
 pub answered-always : (c : Call) (records : List Record) → Judged c records (answerOf c) (marksOf c) (recordsOf c records) (outOf c)
 answered-always c records = record { answer = refl; marksThen = refl; outThen = refl; recordsThen = refl }
 
--- and it is a number from E1 to E7,
-pub number-known : (fault : CallFault) → (1 ≤ faultNumber fault) × (faultNumber fault ≤ 7)
+-- and it is a number from E1 to E8,
+pub number-known : (fault : CallFault) → (1 ≤ faultNumber fault) × (faultNumber fault ≤ 8)
 number-known CallFault.FileName = (omega arith, omega arith)
 number-known CallFault.ReceptionMoment = (omega arith, omega arith)
 number-known CallFault.CodeCard = (omega arith, omega arith)
 number-known CallFault.ReceivedNames = (omega arith, omega arith)
 number-known CallFault.Book = (omega arith, omega arith)
 number-known CallFault.OpenDebits = (omega arith, omega arith)
+number-known CallFault.StationTable = (omega arith, omega arith)
 number-known CallFault.Room = (omega arith, omega arith)
 
 -- or an acceptance from 00 to 05

@@ -116,7 +116,7 @@ module _ (c : Call) (records : List Record) (marks′ : List ℕ) (records′ : 
       let n = no-other (valuesOfTic c) sound in
       (ap (λ (t : List ℕ). listedLine t 0) written ∙ n .0, λ i h. ap (λ (t : List ℕ). listedLine t i) written ∙ n .1 i (omega (arith, h, refused-is)))
 
-  -- which lines these are: those whose verdict has a number, L1 to L8; the code is that of the number on the card
+  -- which lines these are: those whose verdict has a number, L1 to L9; the code is that of the number on the card
   pub refused-by-verdict : (k : ℕ) → k < s .lines
       → (refusedAt (wordsJudged c) k ≡ not (eqb (verdictNumber (verdictAt (judgingOf c) (c .marks) k)) 0)) × (codeShown c k ≡ codeOf (c .card) (verdictNumber (verdictAt (judgingOf c) (c .marks) k)))
   unfolding isCounted isAccepted

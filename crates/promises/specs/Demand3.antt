@@ -27,7 +27,7 @@ use Rattle.verdicts.specs.declared.line_tests.LineTest.the-variants.{Passes}
 use Rattle.verdicts.specs.declared.record.Record.{Record}
 use Rattle.verdicts.specs.declared.verdict.Verdict.{Verdict}
 use Rattle.verdicts.specs.declared.verdict.Verdict.the-variants.{Credits, WrongType, NoDebit}
-use Rattle.judging.specs.Judging.{Judging, reachesAt, marksBefore, verdictAt}
+use Rattle.judging.specs.Judging.{Judging, knownOn, reachesAt, marksBefore, verdictAt}
 use Rattle.judging.specs.Marks.{debitOf, debit-file-keeps}
 use Rattle.judge.specs.Call.{Call, fileOf, judgingOf, linesOf, linesToJudge, linesToRecord, answerOf, Judged}
 use Rattle.answers.specs.declared.answer.Answer.{Answer}
@@ -47,14 +47,14 @@ verdictIn records k = getD records k (recordOf [] 0 WrongType) .verdict
 abbrev pub creditsDebit : Verdict → Bool
 creditsDebit verdict = tookDebit (debitOf verdict)
 
--- line k is a credit that passes the other checks: the file is judged line by line, is CRE and has that line, and L1 to L5 let it pass (L6 and L7 are
+-- line k is a credit that passes the other checks: the file is judged line by line, is CRE and has that line, and L1 to L5 and L9 let it pass (L6 and L7 are
 -- for DEB)
 pub record PassesOthers (c : Call) (k : ℕ) : Type 0 where
   pub whole : Whole
   pub lineByLine : fileOf c ≡ Acceptance.Judged whole
   pub there : k < whole .lines
   pub credit : sideOf (c .tif) ≡ Credit
-  pub passing : testLine Credit (nameSender (c .name)) (lineAt (c .tif) k) ≡ Passes
+  pub passing : testLine Credit (nameSender (c .name)) (knownOn (judgingOf c) k) (lineAt (c .tif) k) ≡ Passes
 
 -- an assignment gives line k, and each credit accepted before it in the call's file, a separate agreeing debit of those lent, unmarked when lent
 abbrev pub AssignedIn : Call → ℕ → Type 0
@@ -91,7 +91,7 @@ pub record Credited (c : Call) (marks′ : List ℕ) (k debit : ℕ) : Type 0 wh
   pub unmarkedBefore : getD (c .marks) (debit - 1) 0 ≡ 0
   pub markedAfter : getD marks′ (debit - 1) 0 ≡ 1
 
--- the lines recorded are those of a file with 00 or 01; with E1 to E7 and 02 to 05 there is none
+-- the lines recorded are those of a file with 00 or 01; with E1 to E8 and 02 to 05 there is none
 pub record MarksFollow (c : Call) (r : Answer) (marks′ : List ℕ) (records′ : List Record) : Type 0 where
   -- a record that carries a debit, and one with L8
   pub credited : (k debit : ℕ) → k < linesToRecord r → verdictIn records′ k ≡ Credits debit → Credited c marks′ k debit
@@ -114,7 +114,7 @@ passes-reaching c k h reach = go (answerOf c) refl
     file l (Acceptance.Judged w) e =
         let n : linesOf c ≡ w .lines = ap linesToJudge e in
         let t = reaches-is (judgingOf c) (c .marks) k reach in
-        record { whole = w; lineByLine = e; there = omega (arith, l, n); credit = t .0; passing = ap (λ (s : Side). testLine s (nameSender (c .name)) (lineAt (c .tif) k)) (sym (t .0)) ∙ t .1 }
+        record { whole = w; lineByLine = e; there = omega (arith, l, n); credit = t .0; passing = ap (λ (s : Side). testLine s (nameSender (c .name)) (knownOn (judgingOf c) k) (lineAt (c .tif) k)) (sym (t .0)) ∙ t .1 }
     file l Acceptance.AlreadyReceived e = let n : linesOf c ≡ 0 = ap linesToJudge e in absurd (omega (arith, l, n))
     file l Acceptance.OutOfForm e = let n : linesOf c ≡ 0 = ap linesToJudge e in absurd (omega (arith, l, n))
     file l Acceptance.CountsDiffer e = let n : linesOf c ≡ 0 = ap linesToJudge e in absurd (omega (arith, l, n))

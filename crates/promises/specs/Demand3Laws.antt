@@ -27,8 +27,8 @@ use Rattle.verdicts.specs.Verdict.{verdictNumber}
 use Rattle.verdicts.specs.declared.line_tests.LineTest.{LineTest}
 use Rattle.verdicts.specs.declared.line_tests.LineTest.the-variants.{Fails, Passes}
 use Rattle.verdicts.specs.declared.verdict.Verdict.{Verdict}
-use Rattle.verdicts.specs.declared.verdict.Verdict.the-variants.{Covered, Credits, WrongType, FieldOutOfForm, OtherActor, UnknownVehicle, PlateOutOfForm, RepeatedLine, NotCovered, NoDebit}
-use Rattle.judging.specs.Judging.{Judging, isCreditFile, repeatedAt, coverOn, creditOf, debitVerdict, passedVerdict, takenOn, reachesAt, marksBefore, verdictAt}
+use Rattle.verdicts.specs.declared.verdict.Verdict.the-variants.{Covered, Credits, WrongType, FieldOutOfForm, OtherActor, UnknownVehicle, PlateOutOfForm, RepeatedLine, NotCovered, NoDebit, UnknownStation}
+use Rattle.judging.specs.Judging.{Judging, isCreditFile, repeatedAt, coverOn, creditOf, debitVerdict, passedVerdict, takenOn, knownOn, testOn, reachesAt, marksBefore, verdictAt}
 use Rattle.judging.specs.Marks.{debitOf}
 use Rattle.judging.specs.StepLaws.{passed-credit, passed-debit, passed-neither, fails-verdict, passes-verdict, passes-reaches}
 
@@ -37,8 +37,8 @@ record Apart (v : Verdict) : Type 0 where
   pub none : debitOf v ≡ Taken.NoDebit
   pub other : v ≡ NoDebit → ⊥
 
-apart-numbered : (v : Verdict) → 0 < verdictNumber v → verdictNumber v < 8 → Apart v
-apart-numbered v h l = record { none = go v h; other = λ e. let n : verdictNumber v ≡ 8 = ap verdictNumber e in absurd (omega arith) }
+apart-numbered : (v : Verdict) → 0 < verdictNumber v → (verdictNumber v ≡ 8 → ⊥) → Apart v
+apart-numbered v h l = record { none = go v h; other = λ e. l (ap verdictNumber e) }
   where
     go : (w : Verdict) → 0 < verdictNumber w → debitOf w ≡ Taken.NoDebit
     go (Covered place) p = absurd (omega arith)
@@ -51,30 +51,32 @@ apart-numbered v h l = record { none = go v h; other = λ e. let n : verdictNumb
     go RepeatedLine p = refl
     go NotCovered p = refl
     go NoDebit p = refl
+    go UnknownStation p = refl
 
 apart-debit : (repeated : Bool) (cover : Cover) → Apart (debitVerdict repeated cover)
 apart-debit true cover = apart-numbered RepeatedLine (omega arith) (omega arith)
 apart-debit false (At place) = record { none = refl; other = λ e. let z : _≡_ {A = ℕ} 0 8 = ap verdictNumber e in absurd (omega arith) }
 apart-debit false Nothing = apart-numbered NotCovered (omega arith) (omega arith)
 
--- what L1 to L5 refuse
-apart-test : (side : Side) (sender line : List ℕ) (v : Verdict) → testLine side sender line ≡ Fails v → Apart v
+-- what L1 to L5 and L9 refuse
+apart-test : (side : Side) (sender : List ℕ) (known : Bool) (line : List ℕ) (v : Verdict) → testLine side sender known line ≡ Fails v → Apart v
 unfolding testLine firstOf
-apart-test side sender line v e =
-    go (not (isLawfulType side line)) (not (fieldsInForm line)) (not (isFromSender sender line)) (not (isKnownVehicle line)) (not (platesInForm line)) e
+apart-test side sender known line v e =
+    go (not (isLawfulType side line)) (not (fieldsInForm line)) (not (isFromSender sender line)) (not known) (not (isKnownVehicle line)) (not (platesInForm line)) e
   where
-    same : (w : Verdict) → 0 < verdictNumber w → verdictNumber w < 8 → Fails w ≡ Fails v → Apart v
+    same : (w : Verdict) → 0 < verdictNumber w → (verdictNumber w ≡ 8 → ⊥) → Fails w ≡ Fails v → Apart v
     same w h l p = let q : w ≡ v = cc in rw q at (apart-numbered w h l)
 
-    go : (a b c d f : Bool)
-        → cond a (Fails WrongType) (cond b (Fails FieldOutOfForm) (cond c (Fails OtherActor) (cond d (Fails UnknownVehicle) (cond f (Fails PlateOutOfForm) Passes)))) ≡ Fails v
+    go : (a b c u d f : Bool)
+        → cond a (Fails WrongType) (cond b (Fails FieldOutOfForm) (cond c (Fails OtherActor) (cond u (Fails UnknownStation) (cond d (Fails UnknownVehicle) (cond f (Fails PlateOutOfForm) Passes))))) ≡ Fails v
         → Apart v
-    go true b c d f p = same WrongType (omega arith) (omega arith) p
-    go false true c d f p = same FieldOutOfForm (omega arith) (omega arith) p
-    go false false true d f p = same OtherActor (omega arith) (omega arith) p
-    go false false false true f p = same UnknownVehicle (omega arith) (omega arith) p
-    go false false false false true p = same PlateOutOfForm (omega arith) (omega arith) p
-    go false false false false false p = let z : _≡_ {A = ℕ} 0 1 = cc in absurd (omega arith)
+    go true b c u d f p = same WrongType (omega arith) (omega arith) p
+    go false true c u d f p = same FieldOutOfForm (omega arith) (omega arith) p
+    go false false true u d f p = same OtherActor (omega arith) (omega arith) p
+    go false false false true d f p = same UnknownStation (omega arith) (omega arith) p
+    go false false false false true f p = same UnknownVehicle (omega arith) (omega arith) p
+    go false false false false false true p = same PlateOutOfForm (omega arith) (omega arith) p
+    go false false false false false false p = let z : _≡_ {A = ℕ} 0 1 = cc in absurd (omega arith)
 
 credit-only : (side : Side) → isCreditFile side ≡ true → side ≡ Credit
 credit-only Credit e = refl
@@ -90,7 +92,7 @@ module _ (j : Judging) (marks : List ℕ) (k : ℕ) where
   line = lineAt (j .tif) k
 
   abbrev test : LineTest
-  test = testLine (j .side) (j .sender) line
+  test = testOn j k
 
   abbrev before : List ℕ
   before = marksBefore j marks k
@@ -102,7 +104,7 @@ module _ (j : Judging) (marks : List ℕ) (k : ℕ) where
   unfolding verdictAt
   by-side e s = passes-verdict j before k e ∙ ap (λ (x : Side). passedVerdict x (repeatedAt (j .tif) k) (coverOn (j .book) line) (takenOn j before k)) s
 
-  -- a line reaches L8 where its file is CRE and it passes L1 to L5
+  -- a line reaches L8 where its file is CRE and it passes L1 to L5 and L9
   pub reaches-is : reachesAt j k ≡ true → (j .side ≡ Credit) × (test ≡ Passes)
   unfolding reachesAt
   reaches-is e = (credit-only (j .side) (and-left (isCreditFile (j .side)) (passes test) e), passes-only test (and-right (isCreditFile (j .side)) (passes test) e))
@@ -129,7 +131,7 @@ module _ (j : Judging) (marks : List ℕ) (k : ℕ) where
           (apart-numbered WrongType (omega arith) (omega arith))
 
       go : (t : LineTest) → test ≡ t → Apart (verdictAt j marks k)
-      go (Fails v) e = rw (sym (fails-verdict j before k v e)) (apart-test (j .side) (j .sender) line v e)
+      go (Fails v) e = rw (sym (fails-verdict j before k v e)) (apart-test (j .side) (j .sender) (knownOn j k) line v e)
       go Passes e = passed e (j .side) refl
 
   -- ---- so the verdict says whether a credit was accepted, and with which debit, or refused

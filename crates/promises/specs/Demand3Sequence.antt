@@ -41,7 +41,7 @@ placeOfTaken Taken.NoDebit = []
 unfoldable pub placeIn : List Record → ℕ → List ℕ
 placeIn records k = placeOfTaken (debitOf (verdictIn records k))
 
--- the places of the debits that a call credits, in file order: those that the records of its lines carry. An answer E1 to E7 or 02 to 05 has no line
+-- the places of the debits that a call credits, in file order: those that the records of its lines carry. An answer E1 to E8 or 02 to 05 has no line
 unfoldable pub placesIn : Answer → List Record → List ℕ
 placesIn r records = joinBelow (linesToRecord r) (placeIn records)
 
@@ -79,11 +79,12 @@ pub record Lent : Type 0 where
   pub names : List ℕ
   pub book : List ℕ
   pub tif : List ℕ
+  pub tst : List ℕ
   pub records : List Record
   pub out : List ℕ
 
 abbrev pub callOn : Open → Lent → Call
-callOn o l = callOf (l .name) (l .received) (l .card) (l .names) (l .book) (o .debits) (o .marks) (l .tif) (length (l .records)) (l .out)
+callOn o l = callOf (l .name) (l .received) (l .card) (l .names) (l .book) (o .debits) (o .marks) (l .tif) (l .tst) (length (l .records)) (l .out)
 
 -- a call, or debits added at the end
 pub data Event : Type 0 where

@@ -26,7 +26,7 @@ use Rattle.promises.specs.LeaseReferencesLaws.{lease-byte, same-marks, s
 
 -- the same call with another book lent
 abbrev pub withBook : Call → List ℕ → Call
-withBook c book = callOf (c .name) (c .received) (c .card) (c .names) book (c .debits) (c .marks) (c .tif) (c .room) (c .out)
+withBook c book = callOf (c .name) (c .received) (c .card) (c .names) book (c .debits) (c .marks) (c .tif) (c .tst) (c .room) (c .out)
 
 -- everything that a call gives is the same for two calls
 pub record SameEverything (c d : Call) : Type 0 where
@@ -38,7 +38,7 @@ pub record SameEverything (c d : Call) : Type 0 where
   pub verdicts : (k : ℕ) → verdictAt (judgingOf c) (c .marks) k ≡ verdictAt (judgingOf d) (d .marks) k
 
 module _ (c : Call) (b : List ℕ) (s : SameButLeases width (c .book) b) where
-  -- E1 to E6
+  -- E1 to E6 and E8
   check-same : checkOf c ≡ checkOf (withBook c b)
   unfolding checkCall checkLent
   check-same = rw (same-sound width (c .book) b s)

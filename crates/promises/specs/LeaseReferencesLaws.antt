@@ -15,7 +15,7 @@ use Rattle.book.specs.LeaseLaws.{same-cover}
 use Rattle.book.specs.declared.cover.Cover.{Cover}
 use Rattle.verdicts.specs.LineTests.{lineRows}
 use Rattle.verdicts.specs.Verdict.{wordOf}
-use Rattle.judging.specs.Judging.{Judging, judging, repeatedAt, coverOn, fileRows, acceptedBy, takenOn, verdictOn, reachesAt, marksBefore, verdictAt, wordAt, wordsOf}
+use Rattle.judging.specs.Judging.{Judging, judging, repeatedAt, coverOn, fileRows, acceptedBy, takenOn, knownOn, verdictOn, reachesAt, marksBefore, verdictAt, wordAt, wordsOf}
 
 -- a book and the same with another byte in the lease reference of agreement i, counted from 0: they differ in nothing else
 pub lease-byte : (w : ℕ) (book : List ℕ) (i k byte : ℕ) → i < agreements book → bodyPlace w book i ≤ k → k < bodyPlace w book i + 12 → SameButLeases w book (set book k byte)
@@ -26,7 +26,7 @@ lease-byte w book i k byte known from to = record {
 
 -- the same judging by another book
 abbrev pub judgingBy : List ℕ → Judging → Judging
-judgingBy book j = judging (j .side) (j .sender) book (j .debits) (j .tif)
+judgingBy book j = judging (j .side) (j .sender) book (j .debits) (j .tif) (j .tst)
 
 module _ (j : Judging) (b : List ℕ) (s : SameButLeases width (j .book) b) where
   same-cover-on : (line : List ℕ) → coverOn (j .book) line ≡ coverOn b line
@@ -38,7 +38,7 @@ module _ (j : Judging) (b : List ℕ) (s : SameButLeases width (j .book) b) wher
   same-verdict-on marks k =
       let line = lineAt (j .tif) k in
       ap
-      (λ (cover : Cover). firstOf (lineRows (j .side) (j .sender) line ++ fileRows (j .side) (repeatedAt (j .tif) k) cover (takenOn j marks k)) (acceptedBy (j .side) cover (takenOn j marks k)))
+      (λ (cover : Cover). firstOf (lineRows (j .side) (j .sender) (knownOn j k) line ++ fileRows (j .side) (repeatedAt (j .tif) k) cover (takenOn j marks k)) (acceptedBy (j .side) cover (takenOn j marks k)))
       (same-cover-on line)
 
   module _ (marks : List ℕ) where

@@ -39,7 +39,7 @@ records-at tif words none (suc n) k h =
     (λ e. rw e (getD-at (recordsTo tif words n) (recordAt tif words n) [] none n (records-long tif words n)))
     (λ l. List·getD-append (recordsTo tif words n) (recordAt tif words n ∷ []) none k (rw (records-long tif words n) l) ∙ records-at tif words none n k l)
 
--- what it shows that a call is answered: E1 to E6 let it pass, there is room, and what is told is the summary of the lines judged
+-- what it shows that a call is answered: E1 to E6 and E8 let it pass, there is room, and what is told is the summary of the lines judged
 pub record Shown (c : Call) (s : Summary) : Type 0 where
   pub sound : checkOf c ≡ CallCheck.Sound
   pub roomy : tooSmall (summaryOf c) (c .room) (length (c .out)) ≡ false

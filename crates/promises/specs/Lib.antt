@@ -10,6 +10,7 @@ pub mod LeaseReferencesLaws
 pub mod LeftLaws
 pub mod ManyLines
 pub mod NoRefusalDropped
+pub mod NoTable
 pub mod OneAnswer
 pub mod RefusalsLaws
 pub mod Worked

@@ -32,7 +32,7 @@ pub data Kept (c : Call) (records : List Record) (r : Answer) (marks′ : List �
   listed : (s : Summary) (j : Judged c records (Answered s) marks′ records′ out′) → r ≡ Answered s
       → Lists c records marks′ records′ out′ s j (refusedBefore (wordsJudged c) k + 1) k → Kept c records r marks′ records′ out′ k
 
--- of any call that E1 to E6 let pass, each line judged and refused is so kept
+-- of any call that E1 to E6 and E8 let pass, each line judged and refused is so kept
 pub none-dropped : (c : Call) (records : List Record) (r : Answer) (marks′ : List ℕ) (records′ : List Record) (out′ : List ℕ) → Judged c records r marks′ records′ out′
     → checkOf c ≡ CallCheck.Sound → (k : ℕ) → k < linesOf c → refusedAt (wordsJudged c) k ≡ true → Kept c records r marks′ records′ out′ k
 unfolding answerOf

@@ -79,7 +79,7 @@ pub one-call-in-words : {c : Call} {words : List ℕ} {r r₂ : Answer} {marks�
 one-call-in-words a b =
     (one-value (a .answer) (b .answer), one-value (a .marksThen) (b .marksThen), one-value (a .wordsThen) (b .wordsThen), one-value (a .outThen) (b .outThen))
 
--- the public call: the answer, every mark, every record and the whole output, E1 to E7 and 00 to 05 alike
+-- the public call: the answer, every mark, every record and the whole output, E1 to E8 and 00 to 05 alike
 pub one-call : {c : Call} {records : List Record} {r r₂ : Answer} {marks′ marks₂′ : List ℕ} {records′ records₂′ : List Record} {out′ out₂′ : List ℕ}
     → Judged c records r marks′ records′ out′ → Judged c records r₂ marks₂′ records₂′ out₂′
     → (r ≡ r₂) × (marks′ ≡ marks₂′) × (records′ ≡ records₂′) × (out′ ≡ out₂′)

@@ -149,6 +149,7 @@ workedWith room out = record {
   debits = [];
   marks = [];
   tif = tifWith 1 Debit workedRows 17850;
+  tst = [];
   room = room;
   out = out;
 }

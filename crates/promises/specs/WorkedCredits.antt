@@ -44,6 +44,8 @@ use Rattle.tic.specs.Sound.{notFeed}
 use Rattle.tic_text.specs.Text.{zeros, blanks}
 use Rattle.answers.specs.Told.{judgedAnswer}
 use Rattle.judge.specs.Call.{Call, checkOf, fileOf, judgingOf, answerOf, marksOf}
+use Rattle.tst.specs.Form.{isLent, tableSound}
+use Rattle.tst.specs.Stations.{isKnownStation}
 use Rattle.answers.specs.Card.{isCard}
 use Rattle.answers.specs.Fault.{checkLent, checkCall}
 use Rattle.answers.specs.declared.answer.Answer.the-variants.{Answered}
@@ -72,6 +74,7 @@ creditCall sequence marks = record {
   debits = lineWith firstPassing ++ lineWith firstPassing;
   marks = marks;
   tif = tifWith sequence Credit creditRows 5000;
+  tst = [];
   room = 1;
   out = replicate 1136 0;
 }
@@ -116,7 +119,7 @@ creditRefused = record {
 -- ---- step by step
 -- no call number
 sound : (checkOf firstCall ≡ CallCheck.Sound) × (checkOf secondCall ≡ CallCheck.Sound) × (checkOf thirdCall ≡ CallCheck.Sound)
-unfolding checkCall checkLent firstOf isName isFileStem every isActor isSequence allDigits numberOf valueBelow bigEndian allOf allBytes allBelow byteIs isOf isDigit isCapital same firstDifference differAt firstBelow someBelow isDate checkDate dateFault daysIn isLeap isMoment checkMoment timeFault isCard namesWhole bookSound headSound entriesSound bodiesSound agreements bodyPlace debitsSound countFits linesSound debitSoundAt debitSound isDebitType marksSound markSoundAt lineOf lineWith joined zeros blanks digitsOf
+unfolding checkCall checkLent isLent tableSound firstOf isName isFileStem every isActor isSequence allDigits numberOf valueBelow bigEndian allOf allBytes allBelow byteIs isOf isDigit isCapital same firstDifference differAt firstBelow someBelow isDate checkDate dateFault daysIn isLeap isMoment checkMoment timeFault isCard namesWhole bookSound headSound entriesSound bodiesSound agreements bodyPlace debitsSound countFits linesSound debitSoundAt debitSound isDebitType marksSound markSoundAt lineOf lineWith joined zeros blanks digitsOf
 sound = (refl, refl, refl)
 
 -- the line is whole
@@ -143,7 +146,7 @@ verdicts :
     (wordsOf (judgingOf firstCall) (0 ∷ 0 ∷ []) 1 ≡ wordOf (Credits 1) ∷ [])
     × (wordsOf (judgingOf secondCall) (1 ∷ 0 ∷ []) 1 ≡ wordOf (Credits 2) ∷ [])
     × (wordsOf (judgingOf thirdCall) (1 ∷ 1 ∷ []) 1 ≡ wordOf NoDebit ∷ [])
-unfolding wordsOf tableBelow wordAt verdictAt verdictOn firstOf isLawfulType isListed codeIs fieldsInForm isFromSender isKnownFuel isKnownVehicle platesInForm plateOnLine nationClass codesOf tariffClasses emissions fuels repeatedAt agreeOn agreeAcross spanAgrees coverOn coverOf coverIn coveringAgreement agreementOf agreements taken placeTaken freeFor unmarked agrees marksAfter reachesAt testLine every same firstDifference differAt someBelow firstBelow allBelow isMoment checkMoment dateFault timeFault daysIn isLeap allDigits numberOf valueBelow bigEndian allOf allBytes byteIs isOf isDigit isCapital paddedWith placeOf paddedPlate isFilled twoOf isSmall isMarkedLetter isPlateByte sideOf lineOf tifWith headerWith footerWith rowOf lineWith joinBelow joined zeros blanks digitsOf
+unfolding wordsOf tableBelow wordAt verdictAt verdictOn isLent isKnownStation firstOf isLawfulType isListed codeIs fieldsInForm isFromSender isKnownFuel isKnownVehicle platesInForm plateOnLine nationClass codesOf tariffClasses emissions fuels repeatedAt agreeOn agreeAcross spanAgrees coverOn coverOf coverIn coveringAgreement agreementOf agreements taken placeTaken freeFor unmarked agrees marksAfter reachesAt testLine every same firstDifference differAt someBelow firstBelow allBelow isMoment checkMoment dateFault timeFault daysIn isLeap allDigits numberOf valueBelow bigEndian allOf allBytes byteIs isOf isDigit isCapital paddedWith placeOf paddedPlate isFilled twoOf isSmall isMarkedLetter isPlateByte sideOf lineOf tifWith headerWith footerWith rowOf lineWith joinBelow joined zeros blanks digitsOf
 verdicts = (refl, refl, refl)
 
 -- ---- the answers: two acceptances with the same figures, then one refusal
@@ -157,7 +160,7 @@ credit-answers = (
 
 -- ---- the marks: each file that takes a debit marks that one
 pub credit-marks : (marksOf firstCall ≡ 1 ∷ 0 ∷ []) × (marksOf secondCall ≡ 1 ∷ 1 ∷ []) × (marksOf thirdCall ≡ 1 ∷ 1 ∷ [])
-unfolding marksAfter taken placeTaken freeFor unmarked agrees agreeOn agreeAcross spanAgrees reachesAt testLine firstOf isLawfulType isListed codeIs fieldsInForm isFromSender isKnownFuel isKnownVehicle platesInForm plateOnLine nationClass codesOf tariffClasses emissions fuels every same firstDifference differAt someBelow firstBelow allBelow isMoment checkMoment dateFault timeFault daysIn isLeap allDigits numberOf valueBelow allOf allBytes byteIs isOf isDigit isCapital paddedWith placeOf paddedPlate isFilled twoOf isSmall isMarkedLetter isPlateByte sideOf lineOf tifWith headerWith footerWith rowOf lineWith joinBelow joined zeros blanks digitsOf
+unfolding marksAfter taken placeTaken freeFor unmarked agrees agreeOn agreeAcross spanAgrees reachesAt isLent isKnownStation testLine firstOf isLawfulType isListed codeIs fieldsInForm isFromSender isKnownFuel isKnownVehicle platesInForm plateOnLine nationClass codesOf tariffClasses emissions fuels every same firstDifference differAt someBelow firstBelow allBelow isMoment checkMoment dateFault timeFault daysIn isLeap allDigits numberOf valueBelow allOf allBytes byteIs isOf isDigit isCapital paddedWith placeOf paddedPlate isFilled twoOf isSmall isMarkedLetter isPlateByte sideOf lineOf tifWith headerWith footerWith rowOf lineWith joinBelow joined zeros blanks digitsOf
 credit-marks = (
   marks-are firstCall oneLine (wordOf (Credits 1) ∷ []) (sound .0) (judged 1 (0 ∷ 0 ∷ []) (counted .0)) (verdicts .0) creditAccepted (credit-answers .0) ∙ refl,
   marks-are secondCall oneLine (wordOf (Credits 2) ∷ []) (sound .1) (judged 2 (1 ∷ 0 ∷ []) (counted .1)) (verdicts .1) creditAccepted (credit-answers .1) ∙ refl,

@@ -52,6 +52,8 @@ use Rattle.tic_text.specs.Text.{zeros, blanks, headerText, listedText, footerTe
 use Rattle.tic_text.specs.Worked.{workedHeader}
 use Rattle.answers.specs.Told.{judgedAnswer, summaryFor, headOf, sumsOf}
 use Rattle.judge.specs.Call.{checkOf, fileOf, judgingOf, answerSound, answerOf, marksOf, outOf, recordsOf, Judged}
+use Rattle.tst.specs.Form.{isLent, tableSound}
+use Rattle.tst.specs.Stations.{isKnownStation}
 use Rattle.answers.specs.Card.{isCard, codeOf}
 use Rattle.answers.specs.Fault.{checkLent, checkCall}
 use Rattle.answers.specs.Listing.{refusedBefore, isRefusal, refusedPlace, ticOf}
@@ -136,14 +138,14 @@ filled = refl
 module _ (room : ℕ) (out : List ℕ) where
   -- no call number
   sound : checkOf (workedWith room out) ≡ CallCheck.Sound
-  unfolding checkCall checkLent firstOf isName isFileStem every isActor isSequence allDigits numberOf valueBelow allOf allBytes allBelow byteIs isOf isDigit isCapital same firstDifference differAt firstBelow someBelow isDate checkDate dateFault daysIn isLeap isMoment checkMoment timeFault isCard namesWhole bookSound headSound entriesSound entrySoundAt risesAt bodiesSound agreementSoundAt agreementSound leaseSound periodsSound periodSoundAt followsAt periodForm endForm agreements panOf offsetOf bodyHead periodsAt periodOf bodyEnd bodyPlace placeOf paddedWith filledWith bigEndian lineOf before allPlateBytes paddedPlate isFilled twoOf plateInBook isSmall isMarkedLetter isPlateByte debitsSound countFits linesSound marksSound digitsOf
+  unfolding checkCall checkLent isLent tableSound firstOf isName isFileStem every isActor isSequence allDigits numberOf valueBelow allOf allBytes allBelow byteIs isOf isDigit isCapital same firstDifference differAt firstBelow someBelow isDate checkDate dateFault daysIn isLeap isMoment checkMoment timeFault isCard namesWhole bookSound headSound entriesSound entrySoundAt risesAt bodiesSound agreementSoundAt agreementSound leaseSound periodsSound periodSoundAt followsAt periodForm endForm agreements panOf offsetOf bodyHead periodsAt periodOf bodyEnd bodyPlace placeOf paddedWith filledWith bigEndian lineOf before allPlateBytes paddedPlate isFilled twoOf plateInBook isSmall isMarkedLetter isPlateByte debitsSound countFits linesSound marksSound digitsOf
   sound = refl
 
   judged : fileOf (workedWith room out) ≡ Acceptance.Judged threeLines
   judged = file-by workedName [] workedTif (Lines.Of 3) (tif-framed 1 Debit workedRows 17850 whole (omega arith)) ∙ counted
 
   verdicts : wordsOf (judgingOf (workedWith room out)) [] 3 ≡ workedWords
-  unfolding wordsOf tableBelow wordAt verdictAt verdictOn firstOf isLawfulType isListed codeIs fieldsInForm isFromSender isKnownFuel isKnownVehicle platesInForm plateOnLine nationClass codesOf tariffClasses emissions fuels repeatedAt repeatsAt agreeOn agreeAcross spanAgrees coverOn coverOf coverIn coveringAgreement agreementOf panIs hasCover coveringPeriod coversAt periodCovers leasedTo inTime taken placeTaken marksAfter reachesAt testLine every same firstDifference differAt before someBelow firstBelow allBelow isMoment checkMoment dateFault timeFault daysIn isLeap allDigits numberOf valueBelow bigEndian allOf allBytes byteIs isOf isDigit isCapital paddedWith placeOf paddedPlate isFilled twoOf isSmall isMarkedLetter isPlateByte agreements panOf bodyHead periodsAt periodOf bodyEnd bodyPlace sideOf lineOf tifWith headerWith footerWith rowOf lineWith joinBelow joined zeros blanks digitsOf
+  unfolding wordsOf tableBelow wordAt verdictAt verdictOn isLent isKnownStation firstOf isLawfulType isListed codeIs fieldsInForm isFromSender isKnownFuel isKnownVehicle platesInForm plateOnLine nationClass codesOf tariffClasses emissions fuels repeatedAt repeatsAt agreeOn agreeAcross spanAgrees coverOn coverOf coverIn coveringAgreement agreementOf panIs hasCover coveringPeriod coversAt periodCovers leasedTo inTime taken placeTaken marksAfter reachesAt testLine every same firstDifference differAt before someBelow firstBelow allBelow isMoment checkMoment dateFault timeFault daysIn isLeap allDigits numberOf valueBelow bigEndian allOf allBytes byteIs isOf isDigit isCapital paddedWith placeOf paddedPlate isFilled twoOf isSmall isMarkedLetter isPlateByte agreements panOf bodyHead periodsAt periodOf bodyEnd bodyPlace sideOf lineOf tifWith headerWith footerWith rowOf lineWith joinBelow joined zeros blanks digitsOf
   verdicts = refl
 
   module _ (enough : 3 ≤ room) (long : 1136 ≤ length out) where

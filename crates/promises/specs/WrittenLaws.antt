@@ -1,4 +1,4 @@
--- The TIC of a call that E1 to E6 let pass is the text of sound values. Assumes nothing.
+-- The TIC of a call that E1 to E6 and E8 let pass is the text of sound values. Assumes nothing.
 use mathlib.Core.Path.{_≡_, refl, sym, ap, _∙_}
 use mathlib.Core.Bool.{Bool, true, false, not, _&&_, _||_, cond, false≢true}
 use mathlib.Core.List.{List, [], _∷_, _++_}
@@ -37,15 +37,16 @@ use Rattle.tic.specs.RenderedLaws.{wide}
 use Rattle.tic_text.specs.TextLaws.{part-length, tic-length}
 use Rattle.tic_text.specs.declared.values.TicHead.{TicHead}
 use Rattle.tic_text.specs.declared.values.TicSums.{TicSums}
-use Rattle.verdicts.specs.Verdict.{verdictNumber, wordOf, wordNumber}
-use Rattle.verdicts.specs.declared.verdict.Verdict.{Verdict}
+use Rattle.verdicts.specs.Verdict.{verdictNumber, wordNumber}
+use Rattle.verdicts.specs.VerdictLaws.{word-number}
 use Rattle.judging.specs.Judging.{verdictAt, wordAt, wordsOf}
 use Rattle.judging.specs.Sums.{isAccepted, isCounted, countOf, totalOf}
 use Rattle.judging.specs.SumsLaws.{counts-add, total-within}
 use Rattle.answers.specs.Answer.{answerCode}
 use Rattle.answers.specs.Told.{judgedAnswer, fileAnswer, headOf, sumsOf}
 use Rattle.judge.specs.Call.{Call, checkOf, fileOf, judgingOf, linesOf, linesToJudge, wordsJudged, summaryOf, ticOfCall}
-use Rattle.answers.specs.Card.{isCard, codeOf}
+use Rattle.tst.specs.Form.{isLent}
+use Rattle.answers.specs.Card.{verdictsInUse, isCard, codeOf}
 use Rattle.judge.specs.CoreLaws.{words-length}
 use Rattle.answers.specs.Listing.{numberAt, refusedAt, Worded}
 use Rattle.judge.specs.SoundLaws.{CallSound, check-shows, judged, list-ready}
@@ -77,13 +78,13 @@ module _ (line : List ℕ) (s : SoundLine line) where
       rw (a, b, d, e)
 
 -- the code of a verdict number on a card in form
-code-shown : (card : List ℕ) (n : ℕ) → isCard card ≡ true → length card ≡ 16 → 1 ≤ n → n ≤ 8 → codeSound (codeOf card n) ≡ true
+code-shown : (lent : Bool) (card : List ℕ) (n : ℕ) → isCard lent card ≡ true → 1 ≤ n → n * 2 ≤ length card → codeSound (codeOf card n) ≡ true
 unfolding codeSound codeOf every isCard
-code-shown card n f l from to =
+code-shown lent card n f from to =
     let w : n * 2 + 1 - (n * 2 - 1) ≡ 2 = omega arith in
     let part : List ℕ = take (n * 2 + 1 - (n * 2 - 1)) (drop (n * 2 - 1 - 1) card) in
-    let a : eqb (length part) 2 ≡ true = eq-eqb (length part) 2 (rw w (part-length (n * 2 - 1 - 1) 2 card (omega (arith, l)))) in
-    let b : allOf DigitOrCapital part ≡ true = all-of-part DigitOrCapital card (n * 2 - 1 - 1) (n * 2 + 1 - (n * 2 - 1)) (and-right (eqb (length card) 16) (allOf DigitOrCapital card) f) in
+    let a : eqb (length part) 2 ≡ true = eq-eqb (length part) 2 (rw w (part-length (n * 2 - 1 - 1) 2 card (omega arith))) in
+    let b : allOf DigitOrCapital part ≡ true = all-of-part DigitOrCapital card (n * 2 - 1 - 1) (n * 2 + 1 - (n * 2 - 1)) (and-right (eqb (length card) (verdictsInUse lent * 2)) (allOf DigitOrCapital card) f) in
     rw (a, b)
 
 -- ---- counts that agree with the acceptance
@@ -139,18 +140,6 @@ pub words-long : (c : Call) (w : Whole) → fileOf c ≡ Acceptance.Judged w →
 words-long c w file = words-count c ∙ ap linesToJudge file
 
 -- ---- the word of a line has the number of its verdict
-word-number : (v : Verdict) → wordNumber (wordOf v) ≡ verdictNumber v
-word-number (Verdict.Covered place) = omega arith
-word-number (Verdict.Credits debit) = omega arith
-word-number Verdict.WrongType = refl
-word-number Verdict.FieldOutOfForm = refl
-word-number Verdict.OtherActor = refl
-word-number Verdict.UnknownVehicle = refl
-word-number Verdict.PlateOutOfForm = refl
-word-number Verdict.RepeatedLine = refl
-word-number Verdict.NotCovered = refl
-word-number Verdict.NoDebit = refl
-
 pub number-is : (c : Call) (k : ℕ) → k < linesOf c → numberAt (wordsJudged c) k ≡ verdictNumber (verdictAt (judgingOf c) (c .marks) k)
 unfolding wordsJudged wordsOf wordAt
 number-is c k h = ap wordNumber (table-at (wordAt (judgingOf c) (c .marks)) (linesOf c) k 0 h) ∙ word-number (verdictAt (judgingOf c) (c .marks) k)
@@ -165,7 +154,7 @@ module _ (c : Call) (s : CallSound c) (w : Whole) (file : fileOf c ≡ Acceptanc
 
   listable : Worded (c .tif) (c .card) words
   unfolding wordsJudged
-  listable = rw lines-is (list-ready c s w file (judgingOf c))
+  listable = rw lines-is (list-ready c s w file (judgingOf c) refl)
 
   abbrev whole : JudgedFile (c .name) (c .names) (c .tif) w
   whole = judged c s w file
@@ -187,7 +176,7 @@ module _ (c : Call) (s : CallSound c) (w : Whole) (file : fileOf c ≡ Acceptanc
   each-code : (j : ℕ) → j < countOf true words → codeSound (codeShown c (refusalOf c j)) ≡ true
   each-code j h =
       let p = placed words j h in
-      code-shown (c .card) (numberAt words (refusalOf c j)) (s .cardForm) (s .carded) (refused-number (refusalOf c j) (p .refused)) (listable .known (refusalOf c j) (p .within))
+      code-shown (isLent (c .tst)) (c .card) (numberAt words (refusalOf c j)) (s .cardForm) (refused-number (refusalOf c j) (p .refused)) (listable .known (refusalOf c j) (p .within))
 
   listed-amount : (j : ℕ) → amountAt (c .tif) (refusalOf c j) ≡ amountOf (valuesOfTic c) j
   unfolding amountAt amountOf

@@ -28,6 +28,7 @@ use Rattle.judging.specs.Judging.{wordsOf}
 use Rattle.judging.specs.Sums.{countOf, totalOf}
 use Rattle.answers.specs.Told.{refusedFile}
 use Rattle.judge.specs.Call.{Call, wordsJudged, summaryOf, answerOf, isAnswered, marksOf, outOf, recordsOf, Judged}
+use Rattle.tst.specs.Form.{isLent, tableSound}
 use Rattle.answers.specs.Card.{isCard}
 use Rattle.answers.specs.Fault.{checkLent, checkCall}
 use Rattle.answers.specs.declared.answer.Answer.{Answer}
@@ -95,13 +96,14 @@ emptyCall = record {
   debits = [];
   marks = [];
   tif = [];
+  tst = [];
   room = 0;
   out = replicate 324 0;
 }
 
 -- it is answered 05
 pub empty-answer : answerOf emptyCall ≡ Answered (refusedFile OutOfForm [])
-unfolding answerOf summaryOf wordsJudged wordsOf tableBelow countOf totalOf sumBelow acceptanceOf framedLines isReceived sideOf checkCall checkLent firstOf isName isFileStem every isActor isSequence allDigits numberOf valueBelow bigEndian allOf allBytes allBelow byteIs isOf isDigit isCapital same firstDifference differAt firstBelow someBelow isDate checkDate dateFault daysIn isLeap isMoment checkMoment timeFault isCard namesWhole bookSound headSound entriesSound bodiesSound agreements bodyPlace debitsSound countFits linesSound marksSound digitsOf
+unfolding answerOf summaryOf wordsJudged wordsOf tableBelow countOf totalOf sumBelow acceptanceOf framedLines isReceived sideOf checkCall checkLent isLent tableSound firstOf isName isFileStem every isActor isSequence allDigits numberOf valueBelow bigEndian allOf allBytes allBelow byteIs isOf isDigit isCapital same firstDifference differAt firstBelow someBelow isDate checkDate dateFault daysIn isLeap isMoment checkMoment timeFault isCard namesWhole bookSound headSound entriesSound bodiesSound agreements bodyPlace debitsSound countFits linesSound marksSound digitsOf
 empty-answer = refl
 
 -- ---- always E7: refused on the worked call, which has room

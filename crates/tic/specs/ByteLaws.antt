@@ -1,18 +1,15 @@
--- The laws of texts of one kind of byte: of two joined, of a run of one byte, and of texts that are the same. Assumes nothing.
+-- The laws of texts of one kind of byte: of two joined, and of a run of one byte. Assumes nothing.
 use mathlib.Core.Path.{_≡_, refl, sym, ap, _∙_}
 use mathlib.Core.Bool.{Bool, true, false}
 use mathlib.Core.List.{List, [], _++_}
-use Prim.Native.Nat.{ℕ, zero, suc, _+_, _-_, _≤_, _<_}
+use Prim.Native.Nat.{ℕ, _+_, _-_, _≤_, _<_}
 use native.Mathlib.Omega.{arith}
 use lib.ListN.{length, getD, take, drop, length-take, length-drop, replicate, length-append, length-replicate, getD-replicate, List·getD-append}
 use lib.Seq.{getD-append-add, getD-take, getD-drop, ext-getD}
-use lib.Dec.{eqb, ltb}
+use lib.Dec.{ltb}
 use borrow.Author.Tests.{eqb-true, eq-eqb, ltb-true, ltb-false}
-use Rattle.lines.specs.Below.{someBelow}
-use Rattle.lines.specs.BelowLaws.{all-at, all-each, first-none}
-use Rattle.lines.specs.BoolLaws.{and-true, or-false}
+use Rattle.lines.specs.BelowLaws.{all-at, all-each}
 use Rattle.lines.specs.Class.{isOf, byteIs, allBytes, allOf}
-use Rattle.lines.specs.Same.{differAt, firstDifference, same}
 use Rattle.lines.specs.declared.class.Class.the-variants.{Only}
 
 -- ---- what p names
@@ -65,21 +62,3 @@ only-is b s e =
 pub only-run : (b n : ℕ) → allOf (Only b) (replicate n b) ≡ true
 unfolding allOf isOf
 only-run b n = bytes-run (isOf (Only b)) n b (eq-eqb b b refl)
-
--- ---- a text is the same as itself
-pub none-each : (p : ℕ → Bool) (k : ℕ) → ((i : ℕ) → i < k → p i ≡ false) → someBelow k p ≡ false
-unfolding someBelow
-none-each p zero each = refl
-none-each p (suc k) each = or-false (someBelow k p) (p k) (none-each p k (λ i h. each i (omega arith))) (each k (omega arith))
-
-self : (s : List ℕ) → same s s ≡ true
-unfolding same firstDifference differAt
-self s =
-    and-true (eqb (length s) (length s)) (eqb (firstDifference s s) (length s)) (equal (length s))
-    (eq-eqb (firstDifference s s) (length s) (first-none (differAt s s) (length s) (none-each (differAt s s) (length s) (λ i h. rw (equal (getD s i 0))))))
-  where
-    equal : (b : ℕ) → eqb b b ≡ true
-    equal b = eq-eqb b b refl
-
-pub same-self : (s t : List ℕ) → s ≡ t → same s t ≡ true
-same-self s t e = ap (same s) (sym e) ∙ self s

@@ -10,11 +10,11 @@ use lib.Seq.{getD-at, getD-take, length-take-le}
 use lib.Dec.{eqb}
 use borrow.Author.Tests.{eqb-true, eq-eqb, not-false}
 use Rattle.lines.specs.Below.{someBelow, firstBelow}
-use Rattle.lines.specs.BelowLaws.{below-suc, first-hit, first-found, some-none}
+use Rattle.lines.specs.BelowLaws.{below-suc, first-hit, first-found, some-none, some-each}
 use Rattle.lines.specs.Class.{isOf, byteIs, allBytes, placeOf}
 use Rattle.lines.specs.Rows.{oneFeed}
 use Rattle.lines.specs.declared.class.Class.the-variants.{Only}
-use Rattle.tic.specs.ByteLaws.{bytes-at, bytes-each, none-each}
+use Rattle.tic.specs.ByteLaws.{bytes-at, bytes-each}
 use Rattle.tic.specs.Sound.{notFeed}
 
 -- a text without a line feed, and one behind it
@@ -26,7 +26,7 @@ feed-last s e =
     let p : ℕ → Bool = byteIs (isOf (Only 10)) row in
     let f : firstBelow (length row) p ≡ length s =
     first-hit p (length row) (length s) (omega arith)
-    (none-each p (length s) (λ i h. ap (λ (b : ℕ). eqb b 10) (List·getD-append s (10 ∷ []) 0 i h) ∙ not-false' (eqb (getD s i 0) 10) (bytes-at notFeed s e i h)))
+    (some-each p (length s) (λ i h. ap (λ (b : ℕ). eqb b 10) (List·getD-append s (10 ∷ []) 0 i h) ∙ not-false' (eqb (getD s i 0) 10) (bytes-at notFeed s e i h)))
     (eq-eqb (getD row (length s) 0) 10 (getD-at s 10 [] 0 (length s) refl)) in
     eq-eqb (firstBelow (length row) p + 1) (length row) (omega arith)
   where

@@ -15,6 +15,7 @@ use Rattle.lines.specs.Number.{allDigits, numberOf, digitsOf}
 use Rattle.lines.specs.NumberLaws.{digits-length}
 use Rattle.lines.specs.Rows.{oneFeed}
 use Rattle.lines.specs.Same.{differAt, firstDifference, same}
+use Rattle.lines.specs.SameLaws.{same-self}
 use Rattle.lines.specs.declared.class.Class.the-variants.{DigitOrCapital, Only}
 use Rattle.moment.specs.Moment.{isMoment}
 use Rattle.passage.specs.Passage.{grossAmount}
@@ -26,7 +27,7 @@ use Rattle.tif.specs.PartLaws.{part-part}
 use Rattle.tif.specs.Side.{sideText}
 use Rattle.tif.specs.declared.side.Side.{Side}
 use Rattle.tif.specs.declared.side.Side.the-variants.{Credit, Debit, Neither}
-use Rattle.tic.specs.ByteLaws.{bytes-part, only-run, same-self}
+use Rattle.tic.specs.ByteLaws.{bytes-part, only-run}
 use Rattle.tic_text.specs.Columns.{acceptedField, rejectedField, sideField, acceptedAgain, rejectedAgain, shownPart, codePart, rejectedSumField, tifReceiver, receivedStem, receptionMoment}
 use Rattle.tic.specs.DigitLaws.{digits-all, number-digits}
 use Rattle.tic.specs.FreeLaws.{digits-free, cards-free, run-free, side-free, actor-shows, moment-shows, stem-free, FeedFree, with-piece, joined-feed}

@@ -1,4 +1,4 @@
--- The tests of a line by itself, L1 to L5. Each is said as what a line has to show; where it does not, the verdict is given. Assumes nothing.
+-- The tests of a line by itself, L1 to L5, with L9 among them: whether its station is known is told. Each is said as what a line has to show; where it does not, the verdict is given. Assumes nothing.
 use mathlib.Core.Bool.{Bool, true, false, not, _&&_, _||_}
 use mathlib.Core.List.{List, [], _∷_}
 use Prim.Native.Nat.{ℕ}
@@ -17,7 +17,7 @@ use Rattle.verdicts.specs.Tables.{isListed, types, tariffClasses, emissi
 use Rattle.verdicts.specs.declared.line_tests.LineTest.{LineTest}
 use Rattle.verdicts.specs.declared.line_tests.LineTest.the-variants.{Fails, Passes}
 use Rattle.verdicts.specs.declared.verdict.Verdict.{Verdict}
-use Rattle.verdicts.specs.declared.verdict.Verdict.the-variants.{WrongType, FieldOutOfForm, OtherActor, UnknownVehicle, PlateOutOfForm}
+use Rattle.verdicts.specs.declared.verdict.Verdict.the-variants.{WrongType, FieldOutOfForm, OtherActor, UnknownStation, UnknownVehicle, PlateOutOfForm}
 
 -- R first in a CRE file, C or D first in a DEB file
 abbrev pub isOfSide : Side → ℕ → Bool
@@ -71,12 +71,13 @@ plateTests line =
 unfoldable pub platesInForm : List ℕ → Bool
 platesInForm line = every (plateTests line)
 
--- ---- the tests in order
-abbrev pub lineRows : Side → List ℕ → List ℕ → List (Row Verdict)
-lineRows side sender line =
+-- ---- the tests in order: L9 stands right after L3
+abbrev pub lineRows : Side → List ℕ → Bool → List ℕ → List (Row Verdict)
+lineRows side sender known line =
     (not (isLawfulType side line) ⇒ WrongType)
     ∷ (not (fieldsInForm line) ⇒ FieldOutOfForm)
     ∷ (not (isFromSender sender line) ⇒ OtherActor)
+    ∷ (not known ⇒ UnknownStation)
     ∷ (not (isKnownVehicle line) ⇒ UnknownVehicle)
     ∷ (not (platesInForm line) ⇒ PlateOutOfForm)
     ∷ []
@@ -87,8 +88,8 @@ failing [] = []
 failing ((b ⇒ v) ∷ rows) = (b ⇒ Fails v) ∷ failing rows
 
 -- the first test that a line by itself fails
-unfoldable pub testLine : Side → List ℕ → List ℕ → LineTest
-testLine side sender line = firstOf (failing (lineRows side sender line)) Passes
+unfoldable pub testLine : Side → List ℕ → Bool → List ℕ → LineTest
+testLine side sender known line = firstOf (failing (lineRows side sender known line)) Passes
 
 -- whether it fails none
 abbrev pub passes : LineTest → Bool

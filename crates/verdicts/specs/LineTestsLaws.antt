@@ -10,7 +10,7 @@ use Rattle.verdicts.specs.LineTests.{isLawfulType, fieldsInForm, isFromS
 use Rattle.verdicts.specs.Verdict.{verdictNumber}
 use Rattle.verdicts.specs.declared.line_tests.LineTest.the-variants.{Fails, Passes}
 use Rattle.verdicts.specs.declared.verdict.Verdict.{Verdict}
-use Rattle.verdicts.specs.declared.verdict.Verdict.the-variants.{WrongType, FieldOutOfForm, OtherActor, UnknownVehicle, PlateOutOfForm}
+use Rattle.verdicts.specs.declared.verdict.Verdict.the-variants.{WrongType, FieldOutOfForm, OtherActor, UnknownStation, UnknownVehicle, PlateOutOfForm}
 
 module _ (rest : List (Row Verdict)) (other : Verdict) where
   -- a test that fails decides
@@ -28,18 +28,37 @@ module _ (rest : List (Row Verdict)) (other : Verdict) where
   passes-on ((false ⇒ w) ∷ rows) e = passes-on rows e
 
 -- what fails is refused
-pub line-refuses : (side : Side) (sender line : List ℕ) (v : Verdict) → testLine side sender line ≡ Fails v → 0 < verdictNumber v
+pub line-refuses : (side : Side) (sender : List ℕ) (known : Bool) (line : List ℕ) (v : Verdict) → testLine side sender known line ≡ Fails v → 0 < verdictNumber v
 unfolding testLine firstOf
-line-refuses side sender line v e =
-    go (not (isLawfulType side line)) (not (fieldsInForm line)) (not (isFromSender sender line)) (not (isKnownVehicle line)) (not (platesInForm line)) e
+line-refuses side sender known line v e =
+    go (not (isLawfulType side line)) (not (fieldsInForm line)) (not (isFromSender sender line)) (not known) (not (isKnownVehicle line)) (not (platesInForm line)) e
   where
     -- a verdict with the number of another that is no acceptance
     numbered : (w : Verdict) → 0 < verdictNumber w → Fails w ≡ Fails v → 0 < verdictNumber v
     numbered w h p = let q : w ≡ v = cc in rw q at h
 
+    go : (a b c u d f : Bool)
+        → cond a (Fails WrongType) (cond b (Fails FieldOutOfForm) (cond c (Fails OtherActor) (cond u (Fails UnknownStation) (cond d (Fails UnknownVehicle) (cond f (Fails PlateOutOfForm) Passes))))) ≡ Fails v
+        → 0 < verdictNumber v
+    go true b c u d f p = numbered WrongType (omega arith) p
+    go false true c u d f p = numbered FieldOutOfForm (omega arith) p
+    go false false true u d f p = numbered OtherActor (omega arith) p
+    go false false false true d f p = numbered UnknownStation (omega arith) p
+    go false false false false true f p = numbered UnknownVehicle (omega arith) p
+    go false false false false false true p = numbered PlateOutOfForm (omega arith) p
+    go false false false false false false p = let z : _≡_ {A = ℕ} 0 1 = cc in absurd (omega arith)
+
+-- where the station is known, what fails is one of L1 to L5
+pub known-number : (side : Side) (sender line : List ℕ) (v : Verdict) → testLine side sender true line ≡ Fails v → verdictNumber v < 6
+unfolding testLine firstOf
+known-number side sender line v e = go (not (isLawfulType side line)) (not (fieldsInForm line)) (not (isFromSender sender line)) (not (isKnownVehicle line)) (not (platesInForm line)) e
+  where
+    numbered : (w : Verdict) → verdictNumber w < 6 → Fails w ≡ Fails v → verdictNumber v < 6
+    numbered w h p = let q : w ≡ v = cc in rw q at h
+
     go : (a b c d f : Bool)
         → cond a (Fails WrongType) (cond b (Fails FieldOutOfForm) (cond c (Fails OtherActor) (cond d (Fails UnknownVehicle) (cond f (Fails PlateOutOfForm) Passes)))) ≡ Fails v
-        → 0 < verdictNumber v
+        → verdictNumber v < 6
     go true b c d f p = numbered WrongType (omega arith) p
     go false true c d f p = numbered FieldOutOfForm (omega arith) p
     go false false true d f p = numbered OtherActor (omega arith) p

@@ -7,9 +7,9 @@ use lib.Dec.{eqb}
 use Rattle.lines.specs.FirstOf.{Row, _⇒_, firstOf}
 use Rattle.book.specs.declared.cover.Place.{Place}
 use Rattle.verdicts.specs.declared.verdict.Verdict.{Verdict}
-use Rattle.verdicts.specs.declared.verdict.Verdict.the-variants.{Covered, Credits, WrongType, FieldOutOfForm, OtherActor, UnknownVehicle, PlateOutOfForm, RepeatedLine, NotCovered, NoDebit}
+use Rattle.verdicts.specs.declared.verdict.Verdict.the-variants.{Covered, Credits, WrongType, FieldOutOfForm, OtherActor, UnknownVehicle, PlateOutOfForm, RepeatedLine, NotCovered, NoDebit, UnknownStation}
 
--- the paper's number of each verdict, L1 to L8, and 0 for an acceptance
+-- the paper's number of each verdict, L1 to L9, and 0 for an acceptance
 abbrev pub verdictNumber : Verdict → ℕ
 verdictNumber (Covered place) = 0
 verdictNumber (Credits debit) = 0
@@ -21,6 +21,7 @@ verdictNumber PlateOutOfForm = 5
 verdictNumber RepeatedLine = 6
 verdictNumber NotCovered = 7
 verdictNumber NoDebit = 8
+verdictNumber UnknownStation = 9
 
 -- what an acceptance carries, in the higher digits: the agreement and the period, or the debit
 abbrev pub carried : Verdict → ℕ
@@ -34,6 +35,7 @@ carried PlateOutOfForm = 0
 carried RepeatedLine = 0
 carried NotCovered = 0
 carried NoDebit = 0
+carried UnknownStation = 0
 
 -- the word of a verdict
 abbrev pub wordOf : Verdict → ℕ
@@ -63,6 +65,7 @@ refusals word =
     ∷ (eqb (wordNumber word) 6 ⇒ RepeatedLine)
     ∷ (eqb (wordNumber word) 7 ⇒ NotCovered)
     ∷ (eqb (wordNumber word) 8 ⇒ NoDebit)
+    ∷ (eqb (wordNumber word) 9 ⇒ UnknownStation)
     ∷ []
 
 -- the verdict that a word is

@@ -1,4 +1,4 @@
--- A word gives its verdict back. Assumes nothing.
+-- A word gives its verdict back, and its number. Assumes nothing.
 use mathlib.Core.Path.{_≡_, refl, sym, ap, _∙_}
 use Prim.Native.Nat.{ℕ, _<_}
 use native.Mathlib.Omega.{arith}
@@ -8,14 +8,14 @@ use Rattle.lines.specs.Tests.{tests}
 use Rattle.book.specs.declared.cover.Place.{Place}
 use Rattle.verdicts.specs.Verdict.{verdictNumber, wordOf, wordNumber, wordFirst, wordSecond, acceptanceOf, verdictOf, Placed, InWord}
 use Rattle.verdicts.specs.declared.verdict.Verdict.{Verdict}
-use Rattle.verdicts.specs.declared.verdict.Verdict.the-variants.{Covered, Credits, WrongType, FieldOutOfForm, OtherActor, UnknownVehicle, PlateOutOfForm, RepeatedLine, NotCovered, NoDebit}
+use Rattle.verdicts.specs.declared.verdict.Verdict.the-variants.{Covered, Credits, WrongType, FieldOutOfForm, OtherActor, UnknownVehicle, PlateOutOfForm, RepeatedLine, NotCovered, NoDebit, UnknownStation}
 
 -- a word with the number 0 is an acceptance
 pub accepts : (word : ℕ) → wordNumber word ≡ 0 → acceptanceOf word ≡ verdictOf word
 unfolding verdictOf
 accepts word e =
     picked
-    (past (omega tests) (past (omega tests) (past (omega tests) (past (omega tests) (past (omega tests) (past (omega tests) (past (omega tests) (past (omega tests) none))))))))
+    (past (omega tests) (past (omega tests) (past (omega tests) (past (omega tests) (past (omega tests) (past (omega tests) (past (omega tests) (past (omega tests) (past (omega tests) none)))))))))
 
 -- with a period it is that of a debit, with none that of a credit
 module _ (word a b : ℕ) (e : wordFirst word ≡ a) (f : wordSecond word ≡ b) where
@@ -50,6 +50,21 @@ word-back PlateOutOfForm i = refl
 word-back RepeatedLine i = refl
 word-back NotCovered i = refl
 word-back NoDebit i = refl
+word-back UnknownStation i = refl
+
+-- the number in a word is its verdict's
+pub word-number : (v : Verdict) → wordNumber (wordOf v) ≡ verdictNumber v
+word-number (Covered place) = omega arith
+word-number (Credits debit) = omega arith
+word-number WrongType = refl
+word-number FieldOutOfForm = refl
+word-number OtherActor = refl
+word-number UnknownVehicle = refl
+word-number PlateOutOfForm = refl
+word-number RepeatedLine = refl
+word-number NotCovered = refl
+word-number NoDebit = refl
+word-number UnknownStation = refl
 
 -- a refusal carries nothing, and so fits a word
 pub refusal-fits : (v : Verdict) → 0 < verdictNumber v → InWord v

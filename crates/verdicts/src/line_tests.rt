@@ -162,10 +162,10 @@ pub fn plates_in_form(line: &[u8]) -> bool
     has_plate(line, DETECTED_PLATE, DETECTED_NATION)
 }
 
-// The first of L1 to L5 that a line fails.
-pub fn test_line(line: &[u8], side: Side, sender: &[u8]) -> LineTest
+// The first of L1, L2, L3, L9, L4 and L5 that a line fails; whether its station is known is told.
+pub fn test_line(line: &[u8], side: Side, sender: &[u8], known: bool) -> LineTest
     requires { ⌜ length (now line) ≡ lineWidth ⌝ }
-    ensures { λ r. ⌜ r ≡ testLine side (now (sender .entry)) (now (line .entry)) ⌝ }
+    ensures { λ r. ⌜ r ≡ testLine side (now (sender .entry)) known (now (line .entry)) ⌝ }
 {
     if !is_lawful_type(line, side) {
         return LineTest::Fails(Verdict::WrongType);
@@ -173,8 +173,12 @@ pub fn test_line(line: &[u8], side: Side, sender: &[u8]) -> LineTest
     if !fields_in_form(line) {
         return LineTest::Fails(Verdict::FieldOutOfForm);
     }
-    if !is_from_sender(line, sender) {
+    let sent = is_from_sender(line, sender);
+    if !sent {
         return LineTest::Fails(Verdict::OtherActor);
+    }
+    if !known {
+        return LineTest::Fails(Verdict::UnknownStation);
     }
     if !is_known_vehicle(line) {
         return LineTest::Fails(Verdict::UnknownVehicle);

@@ -16,6 +16,7 @@ pub enum Verdict {
     RepeatedLine,
     NotCovered,
     NoDebit,
+    UnknownStation,
 }
 
 // A verdict as one number.
@@ -34,6 +35,7 @@ pub fn word_of(v: Verdict) -> u64
         Verdict::RepeatedLine => 6,
         Verdict::NotCovered => 7,
         Verdict::NoDebit => 8,
+        Verdict::UnknownStation => 9,
     }
 }
 
@@ -66,6 +68,7 @@ pub fn verdict_of(word: u64) -> Verdict
         6 => Verdict::RepeatedLine,
         7 => Verdict::NotCovered,
         8 => Verdict::NoDebit,
+        9 => Verdict::UnknownStation,
         _ => acceptance_of(word),
     }
 }

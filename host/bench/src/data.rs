@@ -5,6 +5,7 @@ use reference::call::{judge, Call};
 use reference::example::{self, Passage};
 use reference::generator::book_model::{AgreementModel, BookModel, PeriodModel};
 use reference::generator::rng::Rng;
+use reference::tst::Station;
 
 const AGREEMENTS: usize = 1_000;
 /// As many periods as a book of 1,048,576 bytes has room for with its agreements.
@@ -97,6 +98,36 @@ pub fn debits_by_pan(count: usize) -> Call {
     call(Side::Debit, &lines)
 }
 
+/// The same against a table of as many stations, each line at one of them.
+pub fn debits_with_stations(count: usize) -> Call {
+    with_stations(debits_by_pan(count), count)
+}
+
+/// DEB without a line, against the example's book of one agreement.
+pub fn no_line() -> Call {
+    Call {
+        output_length: 324,
+        ..example::call(Side::Debit, &[])
+    }
+}
+
+/// The call with a table of the stations of so many passages, in another order.
+pub fn with_stations(call: Call, count: usize) -> Call {
+    let mut passages = passages(count);
+    Rng::new(count as u64, 7).shuffle(&mut passages);
+    let stations: Vec<Station> = passages.iter().map(station_of).collect();
+    example::with_table(call, &stations)
+}
+
+fn station_of(passage: &Passage) -> Station<'_> {
+    let (station, lane) = passage.station_and_lane.split_at(4);
+    Station {
+        actor: &passage.actor,
+        station,
+        lane,
+    }
+}
+
 /// DEB, every line accepted by its plate.
 pub fn debits_by_plate(count: usize) -> Call {
     let blank = passages(count).into_iter().map(|passage| Passage {
@@ -164,6 +195,18 @@ mod tests {
         assert_eq!(printed(&credits(999)), "00 CRE 999 999 0");
         assert_eq!(printed(&all_refused(999)), "01 DEB 999 0 999");
         assert_eq!(tic(999).len(), 324 + 812 * 999);
+        assert_eq!(printed(&no_line()), "00 DEB 0 0 0");
+    }
+
+    /// Each line's station is in the table, so that the table refuses none.
+    #[test]
+    fn tables_have_the_stations_of_the_lines() {
+        let with = debits_with_stations(999);
+        assert_eq!(with.tst.len(), 192 + 233 * 999);
+        assert_eq!(printed(&with), "00 DEB 999 999 0");
+        let alone = with_stations(no_line(), 999);
+        assert_eq!(alone.tst, with.tst);
+        assert_eq!(printed(&alone), "00 DEB 0 0 0");
     }
 
     /// The plates of the periods differ.

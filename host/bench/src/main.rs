@@ -1,10 +1,13 @@
 //! `bench`: the library, a plain program and one pass over the bytes, on files of
-//! 999 and of 9,999 lines. Build it for release.
+//! 999 and of 9,999 lines or stations. Build it for release.
 
 #![forbid(unsafe_code)]
 
-use bench::data::{all_refused, credits, debits_by_pan, debits_by_plate, tic};
-use bench::timing::{time_call, time_tic, Times, RUNS};
+use bench::data::{
+    all_refused, credits, debits_by_pan, debits_by_plate, debits_with_stations, no_line, tic,
+    with_stations,
+};
+use bench::timing::{time_call, time_table, time_tic, Times, RUNS};
 use std::time::Duration;
 
 const FEW: usize = 999;
@@ -16,10 +19,14 @@ struct Job {
     time: fn(usize) -> Times,
 }
 
-const JOBS: [Job; 5] = [
+const JOBS: [Job; 7] = [
     Job {
         what: "DEB by PAN, full book",
         time: |lines| time_call(&debits_by_pan(lines)),
+    },
+    Job {
+        what: "DEB by PAN and stations",
+        time: |lines| time_call(&debits_with_stations(lines)),
     },
     Job {
         what: "DEB by plate, full book",
@@ -32,6 +39,10 @@ const JOBS: [Job; 5] = [
     Job {
         what: "DEB, all refused (L7)",
         time: |lines| time_call(&all_refused(lines)),
+    },
+    Job {
+        what: "Station table tested",
+        time: |lines| time_table(&with_stations(no_line(), lines), &no_line()),
     },
     Job {
         what: "TIC read",
@@ -47,7 +58,8 @@ fn main() {
     println!("Output, words and summary are made and touched before; they are not cleared, in");
     println!("the timed part or before it. Marks are set back before each run, untimed.");
     println!("plain: a plain Rust program with hash maps, the same answers to the byte.");
-    println!("feeds: one pass over TIF, debits and book, or the TIC, that counts line feeds.");
+    println!("feeds: one pass that counts line feeds, over TIF, debits, book and station table,");
+    println!("over the table alone where it is tested, or over the TIC.");
     println!();
     print_row(
         "job",

@@ -27,8 +27,16 @@ struct Lent {
     summary: [u64; 9],
 }
 
-/// A judge on lent memory.
-type Judge = fn(Read, Written) -> u32;
+/// A judge on lent memory, its station table of no bytes where none is lent.
+type Judge = fn(Read, &[u8], Written) -> u32;
+
+/// The library by the function that a caller would take.
+fn library(read: Read, tst: &[u8], written: Written) -> u32 {
+    match tst {
+        [] => lent::judge(read, written),
+        tst => lent::judge_with(read, tst, written),
+    }
+}
 
 impl Lent {
     fn new(call: &Call) -> Lent {
@@ -61,7 +69,7 @@ impl Lent {
             summary: &mut self.summary,
         };
         let start = clock::now();
-        let answer = judge(black_box(read), black_box(written));
+        let answer = judge(black_box(read), black_box(&call.tst), black_box(written));
         let time = clock::now() - start;
         assert_eq!(black_box(answer), 0, "a sound call is answered");
         time
@@ -77,16 +85,27 @@ fn shortest(mut run: impl FnMut() -> Duration) -> Duration {
 /// The times of a call, after the library and the plain program were seen to
 /// leave the same behind.
 pub fn time_call(call: &Call) -> Times {
-    let (mut library, mut plain) = (Lent::new(call), Lent::new(call));
-    library.run(lent::judge, call);
-    plain.run(plain::judge, call);
-    assert_eq!(library.summary, plain.summary);
-    assert!(library.words == plain.words && library.marks == plain.marks);
-    assert!(library.out == plain.out, "the same TIC");
+    let (mut proved, mut plain) = (Lent::new(call), Lent::new(call));
+    proved.run(library, call);
+    plain.run(plain::judge_with, call);
+    assert_eq!(proved.summary, plain.summary);
+    assert!(proved.words == plain.words && proved.marks == plain.marks);
+    assert!(proved.out == plain.out, "the same TIC");
     Times {
-        library: shortest(|| library.run(lent::judge, call)),
-        plain: shortest(|| plain.run(plain::judge, call)),
-        line_feeds: time_line_feeds(&[&call.tif, &call.debits, &call.book]),
+        library: shortest(|| proved.run(library, call)),
+        plain: shortest(|| plain.run(plain::judge_with, call)),
+        line_feeds: time_line_feeds(&[&call.tif, &call.debits, &call.book, &call.tst]),
+    }
+}
+
+/// The times that a station table adds to a call: with it, less those without it.
+/// No function reads a table and does nothing else.
+pub fn time_table(with: &Call, without: &Call) -> Times {
+    let (both, rest) = (time_call(with), time_call(without));
+    Times {
+        library: both.library.saturating_sub(rest.library),
+        plain: both.plain.saturating_sub(rest.plain),
+        line_feeds: time_line_feeds(&[&with.tst]),
     }
 }
 

@@ -12,6 +12,7 @@ const SEEDS: u64 = 3_000;
 /// The plain program where it has a function, the library elsewhere.
 const PLAIN: Subject = Subject {
     judge: plain::judge,
+    judge_with: plain::judge_with,
     read_tic: plain::read_tic,
     ..LIBRARY
 };

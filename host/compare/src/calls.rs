@@ -4,6 +4,7 @@ use crate::owned::owned_difference;
 use crate::rooms::with_other_rooms;
 use crate::state::State;
 use crate::subject::Subject;
+use quindaf::lent::{Read, Written};
 use reference::call::Call;
 use reference::generator::generate;
 
@@ -14,11 +15,21 @@ pub struct Found {
     pub difference: String,
 }
 
-/// The difference on one call with the room it is lent.
+/// The difference on one call with the room it is lent. Where no station table is
+/// lent, the function that takes none is tried as well as the one that takes it.
 pub fn call_difference(subject: &Subject, call: &Call, salt: u8) -> Option<String> {
     let before = State::before(call, salt);
-    let found = before.clone().left_by(subject.judge, call);
-    before.expected(call).difference(&found)
+    let expected = before.clone().expected(call);
+    let judge_with = |read: Read, written: Written| (subject.judge_with)(read, &call.tst, written);
+    let found = before.clone().left_by(judge_with, call);
+    expected.difference(&found).or_else(|| {
+        if !call.tst.is_empty() {
+            return None;
+        }
+        let found = before.left_by(subject.judge, call);
+        let difference = expected.difference(&found)?;
+        Some(format!("by the function without a table: {difference}"))
+    })
 }
 
 /// Every so many seeds the call is tried with other rooms too.

@@ -5,7 +5,7 @@ use reference::acceptance::Side;
 use reference::generator::limits::rare_limit;
 use reference::generator::rng::Rng;
 use reference::generator::world::{Size, World};
-use reference::generator::{damage::Draft, generate};
+use reference::generator::{damage::Draft, generate_without_table};
 use reference::job::{write_job, MOST_JOB_BYTES};
 
 const JOBS: u64 = 3;
@@ -21,7 +21,7 @@ pub fn job(seed: u64) -> Vec<u8> {
     let mut job = if seed % 16 == 5 || rare_limit(seed).is_some() {
         large_job(&mut rng)
     } else {
-        write_job(&generate(seed))
+        write_job(&generate_without_table(seed))
     };
     if rng.once_in(2) {
         rng.pick(&DAMAGES)(&mut rng, &mut job);

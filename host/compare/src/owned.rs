@@ -1,7 +1,7 @@
 //! The same calls through the owned types of `quindaf`.
 
 use crate::state::{different, side_number};
-use quindaf::{Book, CodeCard, FileName, Mark, Moment, OpenDebits};
+use quindaf::{Book, CodeCard, FileName, Mark, Moment, OpenDebits, StationTable};
 use reference::call::{judge, Answer, Call, CallFault, Record};
 use reference::verdict::Verdict;
 
@@ -13,10 +13,11 @@ pub fn owned(call: &Call) -> Option<(quindaf::Call, OpenDebits)> {
     let owned = quindaf::Call {
         name: FileName::try_from(call.name.as_slice()).ok()?,
         received: Moment::try_from(call.reception.as_slice()).ok()?,
-        card: CodeCard::try_from(call.card.as_slice()).ok()?,
+        card: CodeCard(call.card.clone()),
         names: names?,
         book: Book(call.book.clone()),
         tif: call.tif.clone(),
+        stations: StationTable(call.tst.clone()),
     };
     Some((owned, owned_debits(call)?))
 }
@@ -120,7 +121,7 @@ fn owned_record(record: &Record) -> quindaf::Record {
 fn owned_verdict(verdict: Verdict) -> quindaf::Verdict {
     use quindaf::Refusal::*;
     let refusals = [
-        Type, Form, Actor, Vehicle, Plate, Repeated, Uncovered, NoDebit,
+        Type, Form, Actor, Vehicle, Plate, Repeated, Uncovered, NoDebit, Station,
     ];
     match verdict {
         Verdict::Covered(place) => quindaf::Verdict::Covered {

@@ -18,6 +18,7 @@ pub fn shown_call(call: &Call) -> String {
     shown_part(&mut text, "debits", &call.debits, 810);
     shown_part(&mut text, "marks", &call.marks, usize::MAX);
     shown_part(&mut text, "tif", &call.tif, usize::MAX);
+    shown_part(&mut text, "tst", &call.tst, usize::MAX);
     let (records, output) = (call.records_lent, call.output_length);
     let _ = writeln!(text, "room: {records} records, {output} output bytes");
     text

@@ -1,14 +1,14 @@
 //! Smaller calls and TICs that still show a difference: fewer lines, names,
-//! debits, agreements and periods, and the plainest room.
+//! debits, agreements, periods and stations, and the plainest room.
 
 use crate::shrink::fewest;
 use reference::book::Book;
-use reference::call::Call;
-use reference::columns::{body, tif_footer, tif_header};
+use reference::call::{card_width, Call};
+use reference::columns::{body, tif_footer, tif_header, tst_header};
 use reference::generator::book_model::{AgreementModel, BookModel, PeriodModel};
 use reference::generator::room::needed;
 use reference::generator::tics::TicQuestion;
-use reference::lines::MOST_LINES;
+use reference::lines::{Layout, MOST_LINES, TIF, TST};
 use reference::text::{all_zeros, digits_value, padded};
 use reference::tic_reader::read;
 
@@ -53,7 +53,13 @@ pub fn smallest_call(call: &Call, differs: &mut dyn FnMut(&Call) -> bool) -> Cal
     let spare = Spare::of(call);
     let mut smallest = call.clone();
     loop {
-        let steps = [fewer_lines, fewer_names, fewer_debits, smaller_book];
+        let steps = [
+            fewer_stations,
+            fewer_lines,
+            fewer_names,
+            fewer_debits,
+            smaller_book,
+        ];
         let mut still_differs = |call: &Call| differs(&spare.lend(call));
         let smaller = steps.iter().fold(smallest.clone(), |call, step| {
             step(&call, &mut still_differs)
@@ -65,38 +71,55 @@ pub fn smallest_call(call: &Call, differs: &mut dyn FnMut(&Call) -> bool) -> Cal
     }
 }
 
-/// Fewer body lines, with counts and total that agree if the difference stays
-/// so, else with the header and footer as they are.
-fn fewer_lines(call: &Call, differs: &mut dyn FnMut(&Call) -> bool) -> Call {
-    let (header, rest) = call.tif.split_at(tif_header::WIDTH.min(call.tif.len()));
-    let footer_place = rest.len().saturating_sub(tif_footer::WIDTH);
-    let (lines, footer) = rest.split_at(footer_place);
-    let lines: Vec<&[u8]> = lines.chunks(body::WIDTH).collect();
-    let with_lines = |lines: &[&[u8]], agreeing: bool| {
-        let mut tif = [header, &lines.concat(), footer].concat();
-        if agreeing {
-            let place = tif.len() - footer.len();
-            make_agree(&mut tif, place, lines);
-        }
-        Call {
-            tif,
-            ..call.clone()
-        }
-    };
-    for agreeing in [true, false] {
-        let left = fewest(&lines, |left| differs(&with_lines(left, agreeing)));
-        if left.len() < lines.len() {
-            return with_lines(&left, agreeing);
-        }
-    }
-    call.clone()
+/// A file whose lines are made fewer, and how its other parts are made to agree
+/// with those that are left.
+struct Rows<'a> {
+    file: &'a [u8],
+    layout: Layout,
+    make_agree: fn(&mut [u8], usize, &[&[u8]]),
 }
 
-/// Counts and total of these lines, where there is room for them.
-fn make_agree(tif: &mut [u8], footer_place: usize, lines: &[&[u8]]) {
-    if footer_place < tif_header::WIDTH || tif.len() - footer_place < tif_footer::WIDTH {
-        return;
+impl Rows<'_> {
+    /// The file with fewer lines, header and footer agreeing with them if the
+    /// difference stays so, else as they are.
+    fn fewer(&self, differs: &mut dyn FnMut(&[u8]) -> bool) -> Vec<u8> {
+        let (header, rest) = self.file.split_at(self.layout.header.min(self.file.len()));
+        let footer_place = rest.len().saturating_sub(self.layout.footer);
+        let (lines, footer) = rest.split_at(footer_place);
+        let lines: Vec<&[u8]> = lines.chunks(self.layout.line).collect();
+        let with_lines = |lines: &[&[u8]], agreeing: bool| {
+            let mut file = [header, &lines.concat(), footer].concat();
+            if agreeing && file.len() >= self.layout.length(0) {
+                let place = file.len() - footer.len();
+                (self.make_agree)(&mut file, place, lines);
+            }
+            file
+        };
+        for agreeing in [true, false] {
+            let left = fewest(&lines, |left| differs(&with_lines(left, agreeing)));
+            if left.len() < lines.len() {
+                return with_lines(&left, agreeing);
+            }
+        }
+        self.file.to_vec()
     }
+}
+
+fn fewer_lines(call: &Call, differs: &mut dyn FnMut(&Call) -> bool) -> Call {
+    let with_tif = |tif: &[u8]| Call {
+        tif: tif.to_vec(),
+        ..call.clone()
+    };
+    let rows = Rows {
+        file: &call.tif,
+        layout: TIF,
+        make_agree: make_tif_agree,
+    };
+    with_tif(&rows.fewer(&mut |tif| differs(&with_tif(tif))))
+}
+
+/// Counts and total of these lines.
+fn make_tif_agree(tif: &mut [u8], footer_place: usize, lines: &[&[u8]]) {
     let amount = |line: &&[u8]| digits_value(body::AMOUNT_WITH_VAT.found_in(line)?);
     let total = lines.iter().filter_map(amount).sum();
     let count = padded(lines.len() as u64, tif_header::RECORDS.width());
@@ -106,6 +129,31 @@ fn make_agree(tif: &mut [u8], footer_place: usize, lines: &[&[u8]]) {
     }
     let footer = &mut tif[footer_place..];
     tif_footer::TOTAL.put(footer, &padded(total, tif_footer::TOTAL.width()));
+}
+
+/// No station table and a card without its code, or else fewer stations.
+fn fewer_stations(call: &Call, differs: &mut dyn FnMut(&Call) -> bool) -> Call {
+    if call.tst.is_empty() {
+        return call.clone();
+    }
+    let with_tst = |tst: &[u8]| Call {
+        tst: tst.to_vec(),
+        ..call.clone()
+    };
+    let mut without = with_tst(&[]);
+    without.card.truncate(card_width(false));
+    if differs(&without) {
+        return without;
+    }
+    let rows = Rows {
+        file: &call.tst,
+        layout: TST,
+        make_agree: |tst, _, lines| {
+            let count = padded(lines.len() as u64, tst_header::RECORDS.width());
+            tst_header::RECORDS.put(tst, &count);
+        },
+    };
+    with_tst(&rows.fewer(&mut |tst| differs(&with_tst(tst))))
 }
 
 fn fewer_names(call: &Call, differs: &mut dyn FnMut(&Call) -> bool) -> Call {

@@ -46,7 +46,7 @@ impl State {
     }
 
     /// After the call, as another judge left it.
-    pub fn left_by(mut self, judge: fn(Read, Written) -> u32, call: &Call) -> State {
+    pub fn left_by(mut self, judge: impl Fn(Read, Written) -> u32, call: &Call) -> State {
         let written = Written {
             marks: &mut self.marks,
             words: &mut self.words,
@@ -72,7 +72,7 @@ pub fn filler(salt: u8, at: u64) -> u64 {
     (at + u64::from(salt)).wrapping_mul(0x9E37_79B9_7F4A_7C15) ^ 0xA5
 }
 
-/// What a call reads.
+/// What a call reads, but for its station table.
 pub fn lent(call: &Call) -> Read<'_> {
     Read {
         name: &call.name,

@@ -78,6 +78,19 @@ fn one_line_too_many() {
     }
 }
 
+/// A table of 9,999 stations, for as many lines and for a few; 10,000 give E8, also
+/// where there is no room.
+#[test]
+fn the_largest_station_table() {
+    let calls = [
+        at_limit_with_room(Limit::LinesAndStations(9_999)),
+        at_limit_with_room(Limit::Stations(9_999)),
+        at_limit(&mut Rng::new(0, 4), Limit::Stations(10_000)).call,
+    ];
+    let differs = |at: u64| call_difference(&LIBRARY, &calls[at as usize], at as u8);
+    assert_none(first_found(0..3, differs).map(|(_, difference)| difference));
+}
+
 /// A TIC of 9,999 lines, read, listed and rewritten.
 #[test]
 fn the_longest_tic_is_read() {

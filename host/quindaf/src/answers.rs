@@ -11,14 +11,14 @@ pub struct Gross(pub u64);
 #[derive(Clone, Copy, Debug, Default, PartialEq, Eq, PartialOrd, Ord)]
 pub struct Net(pub u64);
 
-/// Why a call is refused: E1 to E7. Nothing lent is changed.
+/// Why a call is refused: E1 to E8. Nothing lent is changed.
 #[derive(Clone, Copy, Debug, PartialEq, Eq, Hash)]
 pub enum CallFault {
     /// E1: the file name is out of form.
     Name = 1,
     /// E2: the reception moment is not real.
     Reception = 2,
-    /// E3: the code card is wrong in a character.
+    /// E3: the code card is wrong in length or character.
     Card = 3,
     /// E4: the received names are no whole slots.
     ReceivedNames = 4,
@@ -28,10 +28,12 @@ pub enum CallFault {
     Debits = 6,
     /// E7: output or records too few. Only a lent output can give it.
     Room = 7,
+    /// E8: the station table is out of form.
+    Stations = 8,
 }
 
 impl CallFault {
-    const ALL: [CallFault; 7] = [
+    const ALL: [CallFault; 8] = [
         CallFault::Name,
         CallFault::Reception,
         CallFault::Card,
@@ -39,14 +41,15 @@ impl CallFault {
         CallFault::Book,
         CallFault::Debits,
         CallFault::Room,
+        CallFault::Stations,
     ];
 
-    /// The number in the house rules, 1 to 7.
+    /// The number in the house rules, 1 to 8.
     pub fn number(self) -> u32 {
         self as u32
     }
 
-    /// The answer of the library as a result; it gives no number above 7.
+    /// The answer of the library as a result; it gives no number above 8.
     pub(crate) fn check(answer: u32) -> Result<(), CallFault> {
         match answer {
             0 => Ok(()),
@@ -65,6 +68,7 @@ impl fmt::Display for CallFault {
             CallFault::Book => "the agreement book is out of form",
             CallFault::Debits => "the open debits are out of form",
             CallFault::Room => "the output or the records are too few",
+            CallFault::Stations => "the station table is out of form",
         };
         write!(to, "E{}: {what}", self.number())
     }

@@ -2,7 +2,7 @@
 
 use crate::answers::{CallFault, Gross, Net, Summary};
 use crate::lent::{self, Read, Words, Written, MOST_LINES};
-use crate::parts::{Book, CodeCard, FileName, Moment, OpenDebits, LINE_WIDTH};
+use crate::parts::{Book, CodeCard, FileName, Moment, OpenDebits, StationTable, LINE_WIDTH};
 use crate::tic::tic_length;
 use crate::verdict::Verdict;
 
@@ -17,7 +17,7 @@ pub struct Call {
     pub name: FileName,
     /// The reception moment.
     pub received: Moment,
-    /// The refusal codes that the TIC shows for L1 to L8.
+    /// The refusal codes that the TIC shows for L1 to L8, or to L9 with stations.
     pub card: CodeCard,
     /// The names of files received before.
     pub names: Vec<FileName>,
@@ -25,6 +25,8 @@ pub struct Call {
     pub book: Book,
     /// The TIF.
     pub tif: Vec<u8>,
+    /// The station table, or none.
+    pub stations: StationTable,
 }
 
 /// The record of a line.
@@ -66,8 +68,8 @@ pub struct JudgedInto<'o> {
 }
 
 impl Call {
-    /// Judges the TIF, or gives E1 to E6 with no mark changed. Output and records
-    /// are made large enough for any answer, so that E7 never comes.
+    /// Judges the TIF, or gives E1 to E6 or E8 with no mark changed. Output and
+    /// records are made large enough for any answer, so that E7 never comes.
     pub fn judge(&self, debits: &mut OpenDebits) -> Result<Judged, CallFault> {
         let mut tic = vec![0; tic_length(self.most_lines())];
         let judged = self.judge_into(debits, MOST_LINES, &mut tic)?;
@@ -109,7 +111,7 @@ impl Call {
             out: &mut *out,
             summary: &mut summary,
         };
-        CallFault::check(lent::judge(read, written))?;
+        CallFault::check(lent::judge_with(read, &self.stations.0, written))?;
         let (tic, rest) = out.split_at_mut(summary[8] as usize);
         let summary = Summary::of_numbers(&summary);
         Ok(JudgedInto {

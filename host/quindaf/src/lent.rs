@@ -7,13 +7,13 @@
 
 use crate::raw;
 
-/// The most lines of a TIF and the most open debits.
+/// The most lines of a TIF or of a station table, and the most open debits.
 pub const MOST_LINES: usize = 9_999;
 
 /// One word for each line a TIF may have.
 pub type Words = [u64; MOST_LINES];
 
-/// What a call reads.
+/// What a call reads, but for its station table.
 #[derive(Clone, Copy, Debug)]
 pub struct Read<'a> {
     /// The file name of the TIF.
@@ -47,34 +47,57 @@ pub struct Written<'a> {
     pub summary: &'a mut [u64; 9],
 }
 
-/// Judges a TIF: 0, or the call number 1 to 7 with nothing written.
+/// A function of the library on what is read and written, its further arguments
+/// standing behind the TIF.
+macro_rules! judged_by {
+    ($function:path, $read:ident, $written:ident $(, $behind_tif:expr)*) => {
+        $function(
+            $read.name.as_ptr(),
+            $read.name.len(),
+            $read.received.as_ptr(),
+            $read.received.len(),
+            $read.card.as_ptr(),
+            $read.card.len(),
+            $read.names.as_ptr(),
+            $read.names.len(),
+            $read.book.as_ptr(),
+            $read.book.len(),
+            $read.debits.as_ptr(),
+            $read.debits.len(),
+            $written.marks.as_mut_ptr(),
+            $written.marks.len(),
+            $read.tif.as_ptr(),
+            $read.tif.len(),
+            $($behind_tif,)*
+            $read.room,
+            $written.words.as_mut_ptr(),
+            $written.out.as_mut_ptr(),
+            $written.out.len(),
+            $written.summary.as_mut_ptr(),
+        )
+    };
+}
+
+/// Judges a TIF with no station table: 0, or the call number 1 to 7 with nothing
+/// written.
 pub fn judge(read: Read, written: Written) -> u32 {
     // SAFETY: each pointer comes from a borrow that lasts as long as the call, with
     // its own length; the arrays have the lengths of the declaration; what is
     // written is borrowed exclusively, so it overlaps nothing else.
+    unsafe { judged_by!(raw::quindaf_judge, read, written) }
+}
+
+/// Judges a TIF with a station table, of no bytes where none is lent: 0, or the
+/// call number 1 to 8 with nothing written.
+pub fn judge_with(read: Read, tst: &[u8], written: Written) -> u32 {
+    // SAFETY: as for `judge`.
     unsafe {
-        raw::quindaf_judge(
-            read.name.as_ptr(),
-            read.name.len(),
-            read.received.as_ptr(),
-            read.received.len(),
-            read.card.as_ptr(),
-            read.card.len(),
-            read.names.as_ptr(),
-            read.names.len(),
-            read.book.as_ptr(),
-            read.book.len(),
-            read.debits.as_ptr(),
-            read.debits.len(),
-            written.marks.as_mut_ptr(),
-            written.marks.len(),
-            read.tif.as_ptr(),
-            read.tif.len(),
-            read.room,
-            written.words.as_mut_ptr(),
-            written.out.as_mut_ptr(),
-            written.out.len(),
-            written.summary.as_mut_ptr(),
+        judged_by!(
+            raw::quindaf_judge_with,
+            read,
+            written,
+            tst.as_ptr(),
+            tst.len()
         )
     }
 }

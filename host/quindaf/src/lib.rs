@@ -4,7 +4,9 @@
 //! changes:
 //!
 //! ```
-//! use quindaf::{Acceptance, Book, Call, CodeCard, FileName, Moment, OpenDebits, Side};
+//! use quindaf::{
+//!     Acceptance, Book, Call, CodeCard, FileName, Moment, OpenDebits, Side, StationTable,
+//! };
 //!
 //! // A DEB file without lines.
 //! let zeros = |count: usize| "0".repeat(count);
@@ -18,10 +20,11 @@
 //! let call = Call {
 //!     name: FileName(*b"TIF100123202606150001_20000B_130001"),
 //!     received: Moment(*b"20260616020000"),
-//!     card: CodeCard(*b"0909081004140713"),
+//!     card: CodeCard(b"0909081004140713".to_vec()),
 //!     names: Vec::new(),
 //!     book: Book::empty(),
 //!     tif: (header + &footer).into_bytes(),
+//!     stations: StationTable::none(),
 //! };
 //! let judged = call.judge(&mut OpenDebits::new())?;
 //! assert_eq!(judged.summary.acceptance, Acceptance::Full);
@@ -34,7 +37,7 @@
 //! # Ok::<(), Box<dyn std::error::Error>>(())
 //! ```
 //!
-//! Every call runs on the thread that makes it and needs 128 KB of its stack; a
+//! Every call runs on the thread that makes it and needs 256 KB of its stack; a
 //! Rust thread has 2 MB unless it was started with less.
 //!
 //! The functions on lent memory, which answer any lengths and any bytes, are in
@@ -53,6 +56,6 @@ mod verdict;
 pub use answers::{Acceptance, CallFault, Gross, Net, NoRoom, Side, Summary, TicFault};
 pub use call::{Call, Judged, JudgedInto, Record};
 pub use lent::MOST_LINES;
-pub use parts::{Book, CodeCard, FileName, Mark, Moment, OpenDebits};
+pub use parts::{Book, CodeCard, FileName, Mark, Moment, OpenDebits, StationTable};
 pub use tic::{Listed, Tic, TicValues};
 pub use verdict::{Refusal, Verdict};

@@ -1,4 +1,5 @@
-//! What a call is lent, in types that have the right lengths.
+//! What a call is lent: names, moments and debits in types that have the right
+//! lengths, and bytes whose length the call checks.
 
 use std::array::TryFromSliceError;
 
@@ -32,10 +33,10 @@ fixed_bytes! {
     Moment, 14
 }
 
-fixed_bytes! {
-    /// Two characters for each of L1 to L8, which the call checks (E3).
-    CodeCard, 16
-}
+/// Two characters for each of L1 to L8, and then two for L9 where a station table
+/// is lent: 16 or 18 bytes, which the call checks (E3).
+#[derive(Clone, Debug, PartialEq, Eq)]
+pub struct CodeCard(pub Vec<u8>);
 
 /// An agreement book as bytes, whose form the call checks (E5).
 #[derive(Clone, Debug, PartialEq, Eq)]
@@ -45,6 +46,18 @@ impl Book {
     /// The smallest book: no agreement.
     pub fn empty() -> Book {
         Book(vec![0, 0])
+    }
+}
+
+/// A toll station table as bytes, whose form the call checks (E8).
+#[derive(Clone, Debug, Default, PartialEq, Eq)]
+pub struct StationTable(pub Vec<u8>);
+
+impl StationTable {
+    /// No bytes at all: no table is lent, and no line has L9. A table of 192 bytes
+    /// is another thing: it has no station, so that every line may have L9.
+    pub fn none() -> StationTable {
+        StationTable::default()
     }
 }
 

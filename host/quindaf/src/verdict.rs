@@ -1,6 +1,6 @@
 //! Verdicts on lines, and the words that the library writes them as.
 
-/// Why a line is refused: L1 to L8.
+/// Why a line is refused: L1 to L9.
 #[derive(Clone, Copy, Debug, PartialEq, Eq, Hash)]
 pub enum Refusal {
     /// L1: the type is not listed or belongs to the other side.
@@ -19,10 +19,12 @@ pub enum Refusal {
     Uncovered = 7,
     /// L8: no separate open debit agrees with the credit.
     NoDebit = 8,
+    /// L9: a station table is lent, and has not the line's actor, station and lane.
+    Station = 9,
 }
 
 impl Refusal {
-    const ALL: [Refusal; 8] = [
+    const ALL: [Refusal; 9] = [
         Refusal::Type,
         Refusal::Form,
         Refusal::Actor,
@@ -31,9 +33,10 @@ impl Refusal {
         Refusal::Repeated,
         Refusal::Uncovered,
         Refusal::NoDebit,
+        Refusal::Station,
     ];
 
-    /// The number in the house rules, 1 to 8.
+    /// The number in the house rules, 1 to 9.
     pub fn number(self) -> usize {
         self as usize
     }
@@ -69,7 +72,8 @@ impl Verdict {
     /// assert_eq!(Verdict::of_word(3 * 256 + 2 * 16777216), Some(covered));
     /// assert_eq!(Verdict::of_word(9 * 256), Some(Verdict::Credited { debit: 9 }));
     /// assert_eq!(Verdict::of_word(7), Some(Verdict::Refused(Refusal::Uncovered)));
-    /// assert_eq!(Verdict::of_word(9), None);
+    /// assert_eq!(Verdict::of_word(9), Some(Verdict::Refused(Refusal::Station)));
+    /// assert_eq!(Verdict::of_word(10), None);
     /// ```
     pub fn of_word(word: u64) -> Option<Verdict> {
         let number = (word % 256) as usize;
@@ -79,7 +83,7 @@ impl Verdict {
             (0, 0, _) => None,
             (0, debit, 0) => Some(Verdict::Credited { debit }),
             (0, agreement, period) => Some(Verdict::Covered { agreement, period }),
-            (1..=8, 0, 0) => Some(Verdict::Refused(Refusal::ALL[number - 1])),
+            (1..=9, 0, 0) => Some(Verdict::Refused(Refusal::ALL[number - 1])),
             _ => None,
         }
     }

@@ -1,7 +1,11 @@
 //! The header file serves a C program that links the library.
 
-use reference::example::worked_call;
+use reference::call::Call;
+use reference::columns::body;
+use reference::example::{with_table, worked_call, STATION};
 use reference::job::write_job;
+use reference::lines::TIF;
+use std::fs;
 use std::io::Write;
 use std::path::{Path, PathBuf};
 use std::process::{Command, Stdio};
@@ -34,14 +38,22 @@ fn compiled(name: &str) -> PathBuf {
     program
 }
 
-fn printed(program: &Path, job: &[u8]) -> String {
-    let mut child = Command::new(program)
+/// What the program prints for a call; its table goes by a file if it has one.
+fn printed(program: &Path, call: &Call) -> String {
+    let mut command = Command::new(program);
+    if !call.tst.is_empty() {
+        let file = program.with_extension("tst");
+        fs::write(&file, &call.tst).expect("the table is written");
+        command.arg(file);
+    }
+    let mut child = command
         .stdin(Stdio::piped())
         .stdout(Stdio::piped())
         .spawn()
         .expect("the program starts");
     let mut stdin = child.stdin.take().expect("a piped standard input");
-    stdin.write_all(job).expect("the program reads its job");
+    let job = write_job(call);
+    stdin.write_all(&job).expect("the program reads its job");
     drop(stdin);
     let output = child.wait_with_output().expect("the program ends");
     assert!(output.status.success(), "{}", output.status);
@@ -57,7 +69,25 @@ fn the_worked_example_from_c() {
                     line 2: verdict 7, a 0, b 0\n\
                     line 3: verdict 0, a 1, b 2\n\
                     listed 1: type C1, code 07\n";
-    assert_eq!(printed(&program, &write_job(&call)), expected);
+    assert_eq!(printed(&program, &call), expected);
     call.card.pop();
-    assert_eq!(printed(&program, &write_job(&call)), "E3\n");
+    assert_eq!(printed(&program, &call), "E3\n");
+}
+
+/// The third passage through a lane that the table does not have.
+#[test]
+fn a_station_table_from_c() {
+    let program = compiled("worked_with_table");
+    let mut call = with_table(worked_call(), &[STATION]);
+    let third = TIF.place_of_line(3);
+    body::LANE.put(&mut call.tif[third..], b"0003");
+    let expected = "01 DEB 3 1 2 17850 5000 12850\n\
+                    line 1: verdict 0, a 1, b 2\n\
+                    line 2: verdict 7, a 0, b 0\n\
+                    line 3: verdict 9, a 0, b 0\n\
+                    listed 1: type C1, code 07\n\
+                    listed 2: type C8, code 08\n";
+    assert_eq!(printed(&program, &call), expected);
+    call.tst.pop();
+    assert_eq!(printed(&program, &call), "E8\n");
 }

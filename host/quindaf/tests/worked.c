@@ -1,10 +1,12 @@
-/* Judges the job on standard input and reads its TIC back: `worked < job`. */
+/* Judges the job on standard input, with a station table if a file is named, and
+ * reads the TIC back: `worked [table] < job`. */
 #include "quindaf.h"
 
 #include <stdio.h>
 #include <string.h>
 
 static uint8_t job[65537];
+static uint8_t table[65536];
 static uint8_t out[65536];
 static uint8_t again[65536];
 static uint64_t words[QUINDAF_WORDS];
@@ -64,7 +66,34 @@ static int read_back(size_t length) {
     return written[0] != length || memcmp(out, again, length) != 0;
 }
 
-int main(void) {
+static uint32_t judge(const struct body *b, uint64_t *summary) {
+    return quindaf_judge(
+        b[0].bytes, b[0].length, b[1].bytes, b[1].length, b[2].bytes, b[2].length,
+        b[3].bytes, b[3].length, b[4].bytes, b[4].length, b[5].bytes, b[5].length,
+        b[6].bytes, b[6].length, b[7].bytes, b[7].length,
+        QUINDAF_WORDS, words, out, sizeof out, summary);
+}
+
+static uint32_t judge_with(const struct body *b, size_t table_length, uint64_t *summary) {
+    return quindaf_judge_with(
+        b[0].bytes, b[0].length, b[1].bytes, b[1].length, b[2].bytes, b[2].length,
+        b[3].bytes, b[3].length, b[4].bytes, b[4].length, b[5].bytes, b[5].length,
+        b[6].bytes, b[6].length, b[7].bytes, b[7].length, table, table_length,
+        QUINDAF_WORDS, words, out, sizeof out, summary);
+}
+
+/* The bytes of the file, read into the table; 0 also if it does not open. */
+static size_t read_table(const char *name) {
+    FILE *file = fopen(name, "rb");
+    size_t length;
+    if (file == NULL)
+        return 0;
+    length = fread(table, 1, sizeof table, file);
+    fclose(file);
+    return length;
+}
+
+int main(int argc, char **argv) {
     struct body b[8];
     uint64_t summary[QUINDAF_SUMMARY_NUMBERS];
     uint32_t number;
@@ -72,11 +101,7 @@ int main(void) {
         printf("J\n");
         return 0;
     }
-    number = quindaf_judge(
-        b[0].bytes, b[0].length, b[1].bytes, b[1].length, b[2].bytes, b[2].length,
-        b[3].bytes, b[3].length, b[4].bytes, b[4].length, b[5].bytes, b[5].length,
-        b[6].bytes, b[6].length, b[7].bytes, b[7].length,
-        QUINDAF_WORDS, words, out, sizeof out, summary);
+    number = argc > 1 ? judge_with(b, read_table(argv[1]), summary) : judge(b, summary);
     if (number != QUINDAF_ANSWERED) {
         printf("E%d\n", (int)number);
         return 0;

@@ -2,18 +2,31 @@
 
 use quindaf::{
     Acceptance, Book, Call, CallFault, CodeCard, FileName, Gross, Judged, Mark, Moment, Net,
-    NoRoom, OpenDebits, Refusal, Side, Tic, TicFault, Verdict,
+    NoRoom, OpenDebits, Refusal, Side, StationTable, Tic, TicFault, Verdict,
 };
+use reference::columns::body;
 use reference::example::{self, line, passage, worked_call};
+use reference::tst::Station;
+use reference::tst_writer::write_tst;
 
 fn call(tif: Vec<u8>) -> Call {
     Call {
         name: FileName::try_from(example::NAME).expect("35 bytes"),
         received: Moment::try_from(example::RECEPTION).expect("14 bytes"),
-        card: CodeCard::try_from(example::CARD).expect("16 bytes"),
+        card: CodeCard(example::CARD.to_vec()),
         names: Vec::new(),
         book: Book(example::book().render()),
         tif,
+        stations: StationTable::none(),
+    }
+}
+
+/// The same call with a table of these stations, and a card of nine codes.
+fn with_table(call: Call, stations: &[Station]) -> Call {
+    Call {
+        card: CodeCard(example::CARD_WITH_TABLE.to_vec()),
+        stations: StationTable(write_tst(stations)),
+        ..call
     }
 }
 
@@ -21,6 +34,11 @@ fn worked() -> (Call, Judged) {
     let call = call(worked_call().tif);
     let judged = call.judge(&mut OpenDebits::new()).expect("a sound call");
     (call, judged)
+}
+
+fn verdicts(judged: &Judged) -> Vec<Verdict> {
+    let records = judged.records.iter();
+    records.map(|record| record.verdict).collect()
 }
 
 fn debit() -> [u8; 810] {
@@ -53,9 +71,8 @@ fn the_worked_example() {
         agreement: 1,
         period: 2,
     };
-    let verdicts: Vec<Verdict> = judged.records.iter().map(|record| record.verdict).collect();
     assert_eq!(
-        verdicts,
+        verdicts(&judged),
         [covered, Verdict::Refused(Refusal::Uncovered), covered]
     );
     assert_eq!(judged.records[1].number, 2);
@@ -103,10 +120,9 @@ fn a_tic_that_does_not_read() {
 fn three_credits_for_two_debits() {
     let (call, mut debits) = credits();
     let judged = call.judge(&mut debits).expect("a sound call");
-    let verdicts: Vec<Verdict> = judged.records.iter().map(|record| record.verdict).collect();
     let taken = |debit: usize| Verdict::Credited { debit };
     assert_eq!(
-        verdicts,
+        verdicts(&judged),
         [taken(1), taken(2), Verdict::Refused(Refusal::NoDebit)]
     );
     assert!(debits.marks().all(|mark| mark == Mark::Taken));
@@ -152,14 +168,22 @@ fn a_lent_output_for_a_tic() {
 #[test]
 fn refused_calls() {
     type Spoil = fn(&mut Call, &mut OpenDebits);
-    let spoilt: [(Spoil, CallFault); 5] = [
+    let spoilt: [(Spoil, CallFault); 7] = [
         (|call, _| call.name.0[0] = b'X', CallFault::Name),
         (|call, _| call.received.0[4] = b'2', CallFault::Reception),
         (|call, _| call.card.0[15] = b'a', CallFault::Card),
+        (|call, _| call.stations.0 = write_tst(&[]), CallFault::Card),
         (|call, _| call.book.0.clear(), CallFault::Book),
         (
             |_, debits| debits.push([b'1'; 810], Mark::Free),
             CallFault::Debits,
+        ),
+        (
+            |call, _| {
+                *call = with_table(call.clone(), &[]);
+                call.stations.0.pop();
+            },
+            CallFault::Stations,
         ),
     ];
     for (spoil, fault) in spoilt {
@@ -197,10 +221,43 @@ fn files_of_every_length() {
     }
 }
 
-/// The stack that is asked for is enough.
+/// A passage at the table's station, and one through a lane that it does not have.
+#[test]
+fn a_station_table() {
+    let mut elsewhere = line(b"C1", &passage());
+    body::LANE.put(&mut elsewhere, b"0003");
+    let lines = [line(b"C1", &passage()), elsewhere];
+    let tif = example::tif(reference::acceptance::Side::Debit, &lines);
+    let judged = |call: Call| call.judge(&mut OpenDebits::new()).expect("a sound call");
+    let known = judged(with_table(call(tif.clone()), &[example::STATION]));
+    let covered = Verdict::Covered {
+        agreement: 1,
+        period: 2,
+    };
+    let unknown = Verdict::Refused(Refusal::Station);
+    assert_eq!(verdicts(&known), [covered, unknown]);
+    let tic = Tic::read(known.tic).expect("a TIC that reads");
+    assert_eq!(tic.listed(1).expect("a listed line").code, b"08");
+    let none_known = judged(with_table(call(tif.clone()), &[]));
+    assert_eq!(verdicts(&none_known), [unknown, unknown]);
+    assert_eq!(verdicts(&judged(call(tif))), [covered, covered]);
+}
+
+/// The stack that is asked for is enough, with a table and without.
 #[test]
 fn a_small_stack() {
-    let small = std::thread::Builder::new().stack_size(128 * 1024);
-    let judged = small.spawn(|| worked().1.summary.lines).expect("a thread");
-    assert_eq!(judged.join().expect("the call returns"), 3);
+    for stations in [None, Some([example::STATION])] {
+        let small = std::thread::Builder::new().stack_size(256 * 1024);
+        let lines = move || {
+            let call = worked().0;
+            let call = match stations {
+                None => call,
+                Some(stations) => with_table(call, &stations),
+            };
+            let judged = call.judge(&mut OpenDebits::new());
+            judged.expect("a sound call").summary.lines
+        };
+        let judged = small.spawn(lines).expect("a thread");
+        assert_eq!(judged.join().expect("the call returns"), 3);
+    }
 }

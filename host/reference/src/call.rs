@@ -1,4 +1,4 @@
-//! The call: E1 to E7, then the acceptance with TIC, records and marks.
+//! The call: E1 to E8, or the acceptance with TIC, records and marks.
 
 use crate::acceptance::{side_text, Acceptance, Side};
 use crate::book::Book;
@@ -10,9 +10,10 @@ use crate::numbers::{Count, Gross, Net};
 use crate::text::all_digits_or_capitals;
 use crate::tic::{Listed, Tic};
 use crate::tif::{accept, side_of, SoundTif};
-use crate::verdict::{Judging, Refusal, Verdict, REFUSALS};
+use crate::tst::Stations;
+use crate::verdict::{refusals_in_use, Judging, Refusal, Verdict};
 
-/// Everything that is lent to a call (01, "What is lent").
+/// Everything that is lent to a call (01, "What is lent"; 02, K1).
 #[derive(Clone, Debug, Default, PartialEq, Eq)]
 pub struct Call {
     pub name: Vec<u8>,
@@ -23,6 +24,8 @@ pub struct Call {
     pub debits: Vec<u8>,
     pub marks: Vec<u8>,
     pub tif: Vec<u8>,
+    /// The station table; no bytes at all where none is lent.
+    pub tst: Vec<u8>,
     pub records_lent: usize,
     pub output_length: usize,
 }
@@ -37,6 +40,7 @@ pub enum CallFault {
     Book = 5,
     Debits = 6,
     Room = 7,
+    Stations = 8,
 }
 
 impl CallFault {
@@ -107,6 +111,8 @@ struct SoundCall<'a> {
     name: FileName<'a>,
     book: Book<'a>,
     debits: Debits<'a>,
+    /// None where no table is lent.
+    stations: Option<Stations<'a>>,
 }
 
 /// The answer to a call, or the first call number that applies.
@@ -123,13 +129,13 @@ pub fn judge(call: &Call) -> Result<Answer, CallFault> {
     Ok(answer)
 }
 
-/// E1 to E6, in this order.
+/// E1 to E6 and then E8, in this order.
 fn read_call(call: &Call) -> Result<SoundCall<'_>, CallFault> {
     let name = FileName::read(&call.name).ok_or(CallFault::Name)?;
     if !is_real_moment(&call.reception) {
         return Err(CallFault::Reception);
     }
-    if !is_card(&call.card) {
+    if !is_card(&call.card, lends_table(call)) {
         return Err(CallFault::Card);
     }
     if !are_received_names(&call.received_names) {
@@ -137,12 +143,35 @@ fn read_call(call: &Call) -> Result<SoundCall<'_>, CallFault> {
     }
     let book = Book::read(&call.book).ok_or(CallFault::Book)?;
     let debits = Debits::read(&call.debits, &call.marks).ok_or(CallFault::Debits)?;
-    Ok(SoundCall { name, book, debits })
+    let stations = read_stations(call)?;
+    Ok(SoundCall {
+        name,
+        book,
+        debits,
+        stations,
+    })
 }
 
-/// A code for each refusal, of the width in 004 (3.2), digits or capitals.
-fn is_card(card: &[u8]) -> bool {
-    card.len() == REFUSALS * tic_line::CODE.width() && all_digits_or_capitals(card)
+/// A table of no bytes is none (02, K1); one of any other length is lent.
+fn lends_table(call: &Call) -> bool {
+    !call.tst.is_empty()
+}
+
+fn read_stations(call: &Call) -> Result<Option<Stations<'_>>, CallFault> {
+    if !lends_table(call) {
+        return Ok(None);
+    }
+    let stations = Stations::read(&call.tst).ok_or(CallFault::Stations)?;
+    Ok(Some(stations))
+}
+
+/// A code for each refusal in use, of the width in 004 (3.2).
+pub fn card_width(with_table: bool) -> usize {
+    refusals_in_use(with_table) * tic_line::CODE.width()
+}
+
+fn is_card(card: &[u8], with_table: bool) -> bool {
+    card.len() == card_width(with_table) && all_digits_or_capitals(card)
 }
 
 fn code_of(card: &[u8], refusal: Refusal) -> &[u8] {
@@ -175,7 +204,8 @@ fn refuse_file(call: &Call, name: FileName, acceptance: Acceptance, marks: Vec<u
 /// 00 or 01: every line judged in file order.
 fn judge_lines(call: &Call, sound: SoundCall, tif: &SoundTif) -> Answer {
     let name = sound.name;
-    let mut judging = Judging::new(tif.side, name.sender(), &sound.book, sound.debits);
+    let stations = sound.stations.as_ref();
+    let mut judging = Judging::new(tif.side, name.sender(), stations, &sound.book, sound.debits);
     let records: Vec<Record> = (1..)
         .zip(&tif.lines)
         .map(|(number, line)| record(number, line, judging.judge(line)))

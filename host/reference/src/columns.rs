@@ -1,4 +1,5 @@
-//! Columns of the files, counted from 1 as AP-3.7 counts them; each is named once.
+//! Columns of the files, counted from 1 as AP-3.7 and AP-3.4 count them; each is
+//! named once.
 
 /// A stretch of columns of one line, both ends counted from 1 and both included.
 #[derive(Clone, Copy, Debug, PartialEq, Eq)]
@@ -194,6 +195,52 @@ pub mod tic_footer {
     pub const REJECTED_SUM: Columns = columns(17, 31);
     pub const FILLER: Columns = columns(32, 127);
     pub const LINE_FEED: Columns = columns(128, 128);
+}
+
+/// The header of a station table, 128 bytes (000, 2.1).
+pub mod tst_header {
+    use super::{columns, Columns};
+
+    pub const WIDTH: usize = 128;
+    pub const REGISTER: Columns = columns(1, 1);
+    pub const RECORDS: Columns = columns(66, 80);
+    pub const VERSION: Columns = columns(95, 100);
+    pub const LINE_FEED: Columns = columns(128, 128);
+
+    /// Sender to moment of activation, moment of creation, filler: free.
+    pub const FREE: [Columns; 3] = [columns(2, 65), columns(81, 94), columns(101, 127)];
+}
+
+/// A line of a station table, 233 bytes with its line feed (000, 2.2).
+pub mod tst_line {
+    use super::{columns, Columns};
+
+    pub const WIDTH: usize = 233;
+    pub const REGISTER: Columns = columns(1, 1);
+    pub const ACTOR: Columns = columns(4, 9);
+    pub const STATION: Columns = columns(61, 64);
+    pub const LANE: Columns = columns(117, 120);
+    pub const LINE_FEED: Columns = columns(233, 233);
+
+    /// Country, names and codes, positions, supplier and the rest: free.
+    pub const FREE: [Columns; 4] = [
+        columns(2, 3),
+        columns(10, 60),
+        columns(65, 116),
+        columns(121, 232),
+    ];
+}
+
+/// The footer of a station table, 64 bytes (000, 2.3).
+pub mod tst_footer {
+    use super::{columns, Columns};
+
+    pub const WIDTH: usize = 64;
+    pub const REGISTER: Columns = columns(1, 1);
+    pub const LINE_FEED: Columns = columns(64, 64);
+
+    /// The filler: free.
+    pub const FREE: [Columns; 1] = [columns(2, 63)];
 }
 
 /// An entry of the agreement book, 23 bytes (01, "What is lent").

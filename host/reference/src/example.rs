@@ -6,12 +6,16 @@ use crate::columns::{body, Columns};
 use crate::generator::book_model::{AgreementModel, BookModel, PeriodModel};
 use crate::text::padded;
 use crate::tif_writer::{write_tif, HeaderValues};
+use crate::tst::Station;
+use crate::tst_writer::write_tst;
 
 pub const NAME: &[u8] = b"TIF100123202606150001_20000B_130001";
 pub const SENDER: &[u8] = b"100123";
 pub const RECEPTION: &[u8] = b"20260616020000";
 /// Codes of 004 (3.2) for L1 to L8.
 pub const CARD: &[u8] = b"0909081004140713";
+/// The same with the code for L9, "not a legal Toll Station/lane Identification".
+pub const CARD_WITH_TABLE: &[u8] = b"090908100414071308";
 pub const PAN: &[u8] = b"9578000100000000017";
 pub const UNKNOWN_PAN: &[u8] = b"9578000100000000025";
 pub const BLANK_PAN: &[u8] = b"                   ";
@@ -114,6 +118,22 @@ pub fn tif(side: Side, lines: &[Vec<u8>]) -> Vec<u8> {
         creation: b"20260615230000",
     };
     write_tif(&values, lines)
+}
+
+/// The station of the example's passage.
+pub const STATION: Station = Station {
+    actor: SENDER,
+    station: b"0042",
+    lane: b"0002",
+};
+
+/// The call with a table of these stations, and the card that goes with one.
+pub fn with_table(call: Call, stations: &[Station]) -> Call {
+    Call {
+        card: CARD_WITH_TABLE.to_vec(),
+        tst: write_tst(stations),
+        ..call
+    }
 }
 
 /// The worked example: amounts 5000, 12550 and 300, the second with L7.

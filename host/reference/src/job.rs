@@ -23,8 +23,8 @@ pub fn print_job(job: &[u8]) -> String {
     printed + "\n"
 }
 
-/// The call of a job, or nothing where it is too long, under 32 bytes or not
-/// filled exactly by its lengths.
+/// The call of a job, which lends no station table; or nothing where it is too
+/// long, under 32 bytes or not filled exactly by its lengths.
 pub fn read_job(job: &[u8]) -> Option<Call> {
     if job.len() > MOST_JOB_BYTES || job.len() < LENGTHS_WIDTH {
         return None;
@@ -49,12 +49,14 @@ pub fn read_job(job: &[u8]) -> Option<Call> {
         debits: next(),
         marks: next(),
         tif: next(),
+        tst: Vec::new(),
         records_lent: RECORDS_LENT,
         output_length: OUTPUT_LENT,
     })
 }
 
-/// The job that asks for a call.
+/// The job that asks for a call, but for its station table: a job has no place
+/// for one.
 pub fn write_job(call: &Call) -> Vec<u8> {
     let bodies: [&[u8]; BODIES] = [
         &call.name,

@@ -1,7 +1,7 @@
 //! A plain reference for judging a TIF, writing its TIC and reading a TIC back.
 //!
-//! It follows the papers alone: 01 is the scope paper, 004 is AP-3.7. Clarity
-//! goes before speed.
+//! It follows the papers alone: 01 is the scope paper, 02 has the change requests,
+//! 004 is AP-3.7, 000 is AP-3.4. Clarity goes before speed.
 
 #![forbid(unsafe_code)]
 
@@ -23,5 +23,7 @@ pub mod tic;
 pub mod tic_reader;
 pub mod tif;
 pub mod tif_writer;
+pub mod tst;
+pub mod tst_writer;
 pub mod vectors;
 pub mod verdict;

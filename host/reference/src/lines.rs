@@ -1,7 +1,10 @@
 //! Files of a header, lines and a footer, all of fixed width and each ending
 //! in a line feed.
 
-use crate::columns::{body, tic_footer, tic_header, tic_line, tif_footer, tif_header};
+use crate::columns::{
+    body, tic_footer, tic_header, tic_line, tif_footer, tif_header, tst_footer, tst_header,
+    tst_line, Columns,
+};
 use crate::text::LINE_FEED;
 
 /// The most lines a file may have.
@@ -27,12 +30,30 @@ pub const TIC: Layout = Layout {
     footer: tic_footer::WIDTH,
 };
 
+pub const TST: Layout = Layout {
+    header: tst_header::WIDTH,
+    line: tst_line::WIDTH,
+    footer: tst_footer::WIDTH,
+};
+
+/// Column 1 of every part tells which part it is.
+const REGISTER: Columns = Columns::new(1, 1);
+
 /// A file cut into its parts.
 #[derive(Clone, Debug, PartialEq, Eq)]
 pub struct Parts<'a> {
     pub header: &'a [u8],
     pub lines: Vec<&'a [u8]>,
     pub footer: &'a [u8],
+}
+
+impl Parts<'_> {
+    /// Column 1: "0" in the header, "1" in each line, "2" in the footer.
+    pub fn registers_are_right(&self) -> bool {
+        REGISTER.of(self.header) == b"0"
+            && self.lines.iter().all(|line| REGISTER.of(line) == b"1")
+            && REGISTER.of(self.footer) == b"2"
+    }
 }
 
 impl Layout {

@@ -2,7 +2,7 @@
 
 use crate::acceptance::{Acceptance, Side};
 use crate::columns::{body, tif_footer, tif_header};
-use crate::lines::{Parts, TIF};
+use crate::lines::TIF;
 use crate::moment::is_real_moment;
 use crate::name::{is_among, FileName, VERSION};
 use crate::numbers::{Count, Gross};
@@ -64,7 +64,7 @@ fn counts_agree(stated: &Stated) -> bool {
 /// Every value the file states, or nothing for each cause of 05.
 fn read_stated<'a>(name: FileName<'_>, tif: &'a [u8]) -> Option<Stated<'a>> {
     let parts = TIF.cut(tif)?;
-    if !registers_are_right(&parts) || !names_the_file(parts.header, name) {
+    if !parts.registers_are_right() || !names_the_file(parts.header, name) {
         return None;
     }
     if !header_is_in_form(parts.header) || !all_zeros(tif_footer::FILLER.of(parts.footer)) {
@@ -78,13 +78,6 @@ fn read_stated<'a>(name: FileName<'_>, tif: &'a [u8]) -> Option<Stated<'a>> {
         total: Gross::read(tif_footer::TOTAL.of(parts.footer))?,
         lines: parts.lines,
     })
-}
-
-fn registers_are_right(parts: &Parts) -> bool {
-    let is_body = |line: &&[u8]| body::REGISTER.of(line) == b"1";
-    tif_header::REGISTER.of(parts.header) == b"0"
-        && parts.lines.iter().all(is_body)
-        && tif_footer::REGISTER.of(parts.footer) == b"2"
 }
 
 /// Sender, receiver and sequence are those of the name.

@@ -1,4 +1,4 @@
-//! Line verdicts L1 to L8, the first that applies (01, "Line verdicts").
+//! Line verdicts L1 to L9, the first that applies (01, "Line verdicts"; 02, K1).
 
 use crate::acceptance::Side;
 use crate::book::{Book, Place};
@@ -7,6 +7,7 @@ use crate::debits::Debits;
 use crate::moment::is_real_moment;
 use crate::plate::lawful_on_line;
 use crate::text::all_digits;
+use crate::tst::Stations;
 use std::collections::HashSet;
 
 /// Why a line is refused; the number is the paper's.
@@ -20,10 +21,18 @@ pub enum Refusal {
     Repeated = 6,
     Uncovered = 7,
     NoDebit = 8,
+    Station = 9,
 }
 
-/// The number of refusals, and so of codes on the card.
-pub const REFUSALS: usize = 8;
+/// How many refusals there are, and so codes on the card: L9 is in use where a
+/// station table is lent.
+pub fn refusals_in_use(with_table: bool) -> usize {
+    if with_table {
+        9
+    } else {
+        8
+    }
+}
 
 impl Refusal {
     pub fn number(self) -> usize {
@@ -87,31 +96,40 @@ const FUEL_CODES: [&[u8]; 16] = [
 pub struct Judging<'a> {
     side: Side,
     sender: &'a [u8],
+    stations: Option<&'a Stations<'a>>,
     book: &'a Book<'a>,
     debits: Debits<'a>,
     earlier_lines: HashSet<Vec<u8>>,
 }
 
-/// A test that refuses a line, in the order of the paper.
+/// A test that refuses a line, in the order of the papers.
 type Row = (Refusal, fn(&Judging, &[u8]) -> bool);
 
 /// The tests before the search for a cover or a debit.
-const ROWS: [Row; 6] = [
+const ROWS: [Row; 7] = [
     (Refusal::Type, |file, line| !type_is_lawful(file.side, line)),
     (Refusal::Form, |_, line| !form_is_lawful(line)),
     (Refusal::Actor, |file, line| {
         body::EXIT_ACTOR.of(line) != file.sender
     }),
+    (Refusal::Station, |file, line| file.station_is_unknown(line)),
     (Refusal::Vehicle, |_, line| !vehicle_is_lawful(line)),
     (Refusal::Plate, |_, line| !plates_are_lawful(line)),
     (Refusal::Repeated, |file, line| file.is_repeated(line)),
 ];
 
 impl<'a> Judging<'a> {
-    pub fn new(side: Side, sender: &'a [u8], book: &'a Book<'a>, debits: Debits<'a>) -> Self {
+    pub fn new(
+        side: Side,
+        sender: &'a [u8],
+        stations: Option<&'a Stations<'a>>,
+        book: &'a Book<'a>,
+        debits: Debits<'a>,
+    ) -> Self {
         Judging {
             side,
             sender,
+            stations,
             book,
             debits,
             earlier_lines: HashSet::new(),
@@ -146,6 +164,11 @@ impl<'a> Judging<'a> {
                     Verdict::Credited { debit }
                 }),
         }
+    }
+
+    /// L9: a table is lent, and the line's exit actor, station and lane are not in it.
+    fn station_is_unknown(&self, line: &[u8]) -> bool {
+        self.stations.is_some_and(|stations| !stations.have(line))
     }
 
     /// L6, DEB only: an earlier line, whichever verdict it got, has the same columns.

@@ -9,7 +9,7 @@ use reference::generator::room::{lend_enough, lend_too_little};
 use reference::generator::tally::Tally;
 use reference::generator::tics::{sound_tic, tic_question};
 use reference::generator::world::World;
-use reference::generator::{generate, generate_named};
+use reference::generator::{generate, generate_named, generate_without_table};
 use reference::tic_reader::{read, rewrite};
 
 const CALLS: u64 = 20_000;
@@ -58,12 +58,40 @@ const FIRST_NUMBERS: [u64; 3] = [
     4_328_130_543_233_882_647,
 ];
 
+/// About half of the calls lend a station table.
+#[test]
+fn calls_with_and_without_a_table() {
+    let lends_table = |seed: &u64| !generate(*seed).tst.is_empty();
+    let small = (0..2_000).filter(|&seed| rare_limit(seed).is_none());
+    let lending = small.filter(lends_table).count();
+    assert!((900..1_100).contains(&lending), "{lending} of 2,000");
+}
+
+/// One that lends no table is the seed's call whatever is lent.
+#[test]
+fn a_call_without_its_table() {
+    for seed in (0..400).filter(|&seed| rare_limit(seed).is_none()) {
+        let (call, without) = (generate(seed), generate_without_table(seed));
+        assert!(without.tst.is_empty());
+        assert!(!call.tst.is_empty() || call == without);
+    }
+}
+
+/// A station table for every second seed.
+fn drafts(seed: u64) -> fn(&mut Rng, &World) -> Draft {
+    if seed % 2 == 0 {
+        Draft::with_table
+    } else {
+        Draft::new
+    }
+}
+
 #[test]
 fn a_sound_world_is_judged_line_by_line() {
     for seed in 0..500 {
         let mut rng = Rng::new(seed, 10);
         let world = World::small(&mut rng);
-        let mut call = world.call(&mut rng);
+        let mut call = drafts(seed)(&mut rng, &world).call;
         lend_enough(&mut rng, &mut call);
         let answer = judge(&call).expect("a sound call with room");
         assert!(answer.summary.acceptance.is_line_by_line());
@@ -78,7 +106,7 @@ fn each_damage_alone_gives_its_answer() {
         for seed in 0..60 {
             let mut rng = Rng::new(seed, 11);
             let world = World::small(&mut rng);
-            let mut draft = Draft::new(&mut rng, &world);
+            let mut draft = drafts(seed)(&mut rng, &world);
             if !(damage.apply)(&mut rng, &mut draft) {
                 continue;
             }
@@ -153,6 +181,8 @@ fn every_limit_is_reached_and_passed() {
         (Limit::CreditLines(9_999), Ok(true)),
         (Limit::CreditLines(10_000), Ok(false)),
         (Limit::RefusedLines(9_999), Ok(true)),
+        (Limit::Stations(9_999), Ok(true)),
+        (Limit::Stations(10_000), Err(8)),
     ];
     for (limit, expected) in answers {
         assert!((0..CALLS).any(|seed| rare_limit(seed) == Some(limit)));

@@ -1,8 +1,8 @@
 //! The program's job and its printed line.
 
 use reference::call::Call;
-use reference::example::worked_call;
-use reference::generator::generate;
+use reference::example::{with_table, worked_call};
+use reference::generator::generate_without_table;
 use reference::generator::limits::rare_limit;
 use reference::job::{print_job, read_job, write_job};
 
@@ -53,7 +53,7 @@ fn the_longest_job() {
 #[test]
 fn a_job_gives_its_call_back() {
     for seed in (0..300).filter(|&seed| rare_limit(seed).is_none()) {
-        let call = generate(seed);
+        let call = generate_without_table(seed);
         let read = read_job(&write_job(&call)).expect("a small job");
         let expected = Call {
             records_lent: 128,
@@ -68,8 +68,16 @@ fn a_job_gives_its_call_back() {
 #[test]
 fn jobs_have_room() {
     for seed in (0..3_000).filter(|&seed| rare_limit(seed).is_none()) {
-        assert_ne!(print_job(&write_job(&generate(seed))), "E7\n");
+        let job = write_job(&generate_without_table(seed));
+        assert_ne!(print_job(&job), "E7\n");
     }
+}
+
+/// A job lends no station table, so that its card has eight codes.
+#[test]
+fn a_card_of_nine_codes_is_none() {
+    let job = write_job(&with_table(worked_call(), &[]));
+    assert_eq!(print_job(&job), "E3\n");
 }
 
 #[test]

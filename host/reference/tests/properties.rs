@@ -92,6 +92,31 @@ fn lease_references_reach_no_answer() {
     }
 }
 
+/// In a DEB file the table refuses lines and changes nothing else: without it
+/// every line but those with L9 has the verdict it had.
+#[test]
+fn a_table_only_refuses() {
+    let mut refused = 0;
+    for (call, answer) in answered() {
+        if call.tst.is_empty() || answer.summary.side != Some(Side::Debit) {
+            continue;
+        }
+        let without = Call {
+            card: call.card[..16].to_vec(),
+            tst: Vec::new(),
+            output_length: 1_000_000,
+            ..call
+        };
+        let without = judge(&without).expect("a sound call with room").words();
+        for (word, before) in answer.words().into_iter().zip(without) {
+            assert!(word == 9 || word == before);
+            assert_ne!(before, 9);
+            refused += usize::from(word == 9);
+        }
+    }
+    assert!(refused > 100, "{refused}");
+}
+
 fn with_other_leases(rng: &mut Rng, book: &BookModel) -> BookModel {
     let mut other = book.clone();
     for agreement in &mut other.agreements {

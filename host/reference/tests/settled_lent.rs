@@ -11,6 +11,7 @@ use reference::generator::book_model::{AgreementModel, BookModel, PeriodModel};
 use reference::moment::{check_date, check_moment, MomentFault};
 use reference::name::FileName;
 use reference::plate::{lawful_in_book, lawful_on_line};
+use reference::tst_writer::write_tst;
 
 fn with_book(book: &BookModel) -> Call {
     Call {
@@ -207,13 +208,16 @@ fn every_call_is_tested_whole() {
 /// The first call number in order is given.
 #[test]
 fn call_numbers_in_order() {
-    let mut call = Call::default();
+    let mut call = Call {
+        tst: vec![0],
+        ..Call::default()
+    };
     assert_eq!(call_number(&call), 1);
     call.name = NAME.to_vec();
     assert_eq!(call_number(&call), 2);
     call.reception = b"20260616020000".to_vec();
     assert_eq!(call_number(&call), 3);
-    call.card = b"0000000000000000".to_vec();
+    call.card = b"000000000000000000".to_vec();
     call.received_names = vec![0];
     assert_eq!(call_number(&call), 4);
     call.received_names.clear();
@@ -222,6 +226,8 @@ fn call_numbers_in_order() {
     call.marks = vec![0];
     assert_eq!(call_number(&call), 6);
     call.marks.clear();
+    assert_eq!(call_number(&call), 8);
+    call.tst = write_tst(&[]);
     assert_eq!(call_number(&call), 7);
     call.output_length = 324;
     assert_eq!(acceptance(&call), 5);

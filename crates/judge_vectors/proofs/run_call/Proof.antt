@@ -18,7 +18,7 @@ print-marks-between-requires c κs = search needs
 slice-aggregate-print-lines-judged : tie.Need-slice-aggregate-print-lines-judged
 slice-aggregate-print-lines-judged c =
     let w = c .before .before .before .before .before .before .before .before in
-    let e : length (w .judge-words .last .1 .1 .1 .1 .1 .1 .1 .1 .1 .0) ≡ 9999 = w .judge-words .ensures .long ∙ length-replicate {A = ℕ} 9999 0 in
+    let e : length (w .judge-words .last .1 .1 .1 .1 .1 .1 .1 .1 .1 .1 .0) ≡ 9999 = w .judge-words .ensures .long ∙ length-replicate {A = ℕ} 9999 0 in
     sym e
 
 lines-to-record-requires : tie.Need-lines-to-record-requires

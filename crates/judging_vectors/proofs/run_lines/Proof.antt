@@ -1,5 +1,6 @@
 use lib.ListN.{length}
 use borrow.Author.Needs.{needs}
+use Rattle.tst.specs.Form.{isLent, tableSound}
 use Rattle.judging_vectors.specs.Cases.{ready-worded}
 use Rattle.judging_vectors.proofs.run_lines.Statement.{statement}
 use Rattle.judging_vectors.proofs.run_lines.Tie as tie
@@ -7,7 +8,17 @@ use Rattle.judging_vectors.proofs.run_lines.Tie as tie
 side-of-requires : tie.Need-side-of-requires
 side-of-requires c κs = search needs
 
+sub-judge-lines : tie.Need-sub-judge-lines
+sub-judge-lines c = search needs
+
+part-judge-lines-start : tie.Need-part-judge-lines-start
+part-judge-lines-start c = search needs
+
+part-judge-lines-end : tie.Need-part-judge-lines-end
+part-judge-lines-end c = search needs
+
 judge-lines-requires : tie.Need-judge-lines-requires
+unfolding isLent tableSound
 judge-lines-requires c κs = search needs
 
 print-words-requires : tie.Need-print-words-requires
@@ -21,7 +32,7 @@ print-marks-requires c κs = search needs
 
 sums-of-requires : tie.Need-sums-of-requires
 sums-of-requires c κs =
-    let s = c .before .before .before .before .before .before .before .before .before .before .before .before .before .before .before .before .before .before .before .before in
+    let s = c .before .before .before .before .before .before .before .before .before .before .before .before .before .before .before .before .before .before .before .before .before .before in
     ready-worded _ _ (length (s .args .words .now)) (search needs) (s .pre .1)
 
 print-sums-requires : tie.Need-print-sums-requires
@@ -41,6 +52,9 @@ run-lines-spec =
     tie.close
     (tie.spec
     side-of-requires
+    sub-judge-lines
+    part-judge-lines-start
+    part-judge-lines-end
     judge-lines-requires
     print-words-requires
     print-stroke-requires

@@ -1,6 +1,6 @@
 //! Open debits, found by what a credit must agree on.
 
-use super::fields::all_digits;
+use super::fields::{all_digits, joined};
 use reference::columns::body;
 use std::collections::HashMap;
 
@@ -25,14 +25,7 @@ fn is_open_debit(line: &[u8]) -> bool {
 
 /// What a debit and a credit agree on, side by side.
 fn key(line: &[u8]) -> [u8; KEY] {
-    let mut key = [0; KEY];
-    let mut at = 0;
-    for columns in body::AGREEING {
-        let part = columns.of(line);
-        key[at..at + part.len()].copy_from_slice(part);
-        at += part.len();
-    }
-    key
+    joined(&body::AGREEING, line)
 }
 
 /// The free debits of each key, the first one last.

@@ -1,4 +1,6 @@
-//! Fields of digits, moments, plates and classes of characters.
+//! Fields of digits, moments, plates, classes of characters, and keys.
+
+use reference::columns::Columns;
 
 /// The value of a field of up to 19 digits.
 pub fn number(field: &[u8]) -> Option<u64> {
@@ -74,6 +76,18 @@ fn is_plate_character(byte: u8) -> bool {
 /// A filled plate, or plate and nation blank.
 pub fn is_lawful_plate(plate: &[u8], nation: &[u8]) -> bool {
     is_filled_plate(plate, nation) || (all_are(plate, b' ') && all_are(nation, b' '))
+}
+
+/// Some columns of a line side by side, as a key of their width.
+pub fn joined<const WIDTH: usize>(columns: &[Columns], line: &[u8]) -> [u8; WIDTH] {
+    let mut key = [0; WIDTH];
+    let mut at = 0;
+    for columns in columns {
+        let part = columns.of(line);
+        key[at..at + part.len()].copy_from_slice(part);
+        at += part.len();
+    }
+    key
 }
 
 /// The two-digit number of two bytes.

@@ -2,6 +2,7 @@
 
 use super::fields::{all_are, all_digits_or_capitals, number, real_date, real_moment};
 use reference::columns::{body, name, tif_footer, tif_header};
+use reference::lines::{Layout, TIF};
 
 /// A file to be judged line by line.
 pub struct SoundFile<'a> {
@@ -40,7 +41,7 @@ pub fn accept<'a>(file_name: &[u8], names: &[u8], tif: &'a [u8]) -> Result<Sound
     if received.any(|received| received == file_name) {
         return Err(2);
     }
-    let (header, lines, footer) = cut(tif).ok_or(5u64)?;
+    let (header, lines, footer) = cut(tif, TIF).ok_or(5u64)?;
     let sum = sum_of_amounts(lines).ok_or(5u64)?;
     let (records, transactions) = read_header(header, file_name).ok_or(5u64)?;
     let total = read_footer(footer).ok_or(5u64)?;
@@ -57,16 +58,11 @@ pub fn accept<'a>(file_name: &[u8], names: &[u8], tif: &'a [u8]) -> Result<Sound
     })
 }
 
-/// Header, lines and footer, where the length is right.
-fn cut(tif: &[u8]) -> Option<(&[u8], &[u8], &[u8])> {
-    let width = tif
-        .len()
-        .checked_sub(tif_header::WIDTH + tif_footer::WIDTH)?;
-    if width % body::WIDTH != 0 || width / body::WIDTH > 9_999 {
-        return None;
-    }
-    let (header, rest) = tif.split_at(tif_header::WIDTH);
-    let (lines, footer) = rest.split_at(width);
+/// Header, lines and footer of a file, where the length is right.
+pub fn cut(file: &[u8], layout: Layout) -> Option<(&[u8], &[u8], &[u8])> {
+    let lines = layout.lines_in(file.len())?;
+    let (header, rest) = file.split_at(layout.header);
+    let (lines, footer) = rest.split_at(layout.line * lines);
     Some((header, lines, footer))
 }
 

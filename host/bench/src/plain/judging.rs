@@ -2,8 +2,11 @@
 
 use super::book::{Book, Covers};
 use super::debits::{are_sound, FreeDebits};
-use super::fields::{all_digits, all_digits_or_capitals, is_lawful_plate, real_moment, two_digits};
+use super::fields::{
+    all_digits, all_digits_or_capitals, is_lawful_plate, joined, real_moment, two_digits,
+};
 use super::file::{accept, is_name, side_number, SoundFile};
+use super::stations::Stations;
 use super::tic::{tic_length, write_tic, Head};
 use quindaf::lent::{Read, Written};
 use reference::columns::{body, name};
@@ -18,34 +21,47 @@ struct Sums {
     refused_amount: u64,
 }
 
-/// Judges a TIF as the library does: 0, or the call number.
+/// What lines are judged against, read and in form.
+struct SoundCall<'a> {
+    book: Book<'a>,
+    /// None where no table is lent.
+    stations: Option<Stations>,
+}
+
+/// Judges a TIF as the library does with no station table: 0, or the call number.
 pub fn judge(read: Read, written: Written) -> u32 {
-    match try_judge(read, written) {
+    judge_with(read, &[], written)
+}
+
+/// Judges a TIF as the library does with a station table.
+pub fn judge_with(read: Read, tst: &[u8], written: Written) -> u32 {
+    match try_judge(read, tst, written) {
         Ok(()) => 0,
         Err(number) => number,
     }
 }
 
-fn try_judge(read: Read, written: Written) -> Result<(), u32> {
-    let book = check_call(&read, written.marks)?;
+fn try_judge(read: Read, tst: &[u8], written: Written) -> Result<(), u32> {
+    let sound = check_call(&read, tst, written.marks)?;
     let words = match accept(read.name, read.names, read.tif) {
         Err(acceptance) => return write(&read, written, acceptance, &Sums::default(), &[]),
-        Ok(file) => judge_lines(&file, &read, &book, written.marks),
+        Ok(file) => judge_lines(&file, &read, &sound, written.marks),
     };
     let sums = sum_up(read.tif, &words);
     let acceptance = u64::from(sums.refused > 0);
     write(&read, written, acceptance, &sums, &words)
 }
 
-/// E1 to E6; the book that was read.
-fn check_call<'a>(read: &Read<'a>, marks: &[u8]) -> Result<Book<'a>, u32> {
+/// E1 to E6 and E8; the book and the stations that were read.
+fn check_call<'a>(read: &Read<'a>, tst: &[u8], marks: &[u8]) -> Result<SoundCall<'a>, u32> {
     if !is_name(read.name) {
         return Err(1);
     }
     if real_moment(read.received).is_none() {
         return Err(2);
     }
-    if read.card.len() != 16 || !all_digits_or_capitals(read.card) {
+    let card = if tst.is_empty() { 16 } else { 18 };
+    if read.card.len() != card || !all_digits_or_capitals(read.card) {
         return Err(3);
     }
     if !read.names.len().is_multiple_of(name::WIDTH) {
@@ -55,21 +71,29 @@ fn check_call<'a>(read: &Read<'a>, marks: &[u8]) -> Result<Book<'a>, u32> {
     if !are_sound(read.debits, marks) {
         return Err(6);
     }
-    Ok(book)
+    let stations = match tst {
+        [] => None,
+        tst => Some(Stations::read(tst).ok_or(8u32)?),
+    };
+    Ok(SoundCall { book, stations })
 }
 
 /// One word a line.
-fn judge_lines(file: &SoundFile, read: &Read, book: &Book, marks: &[u8]) -> Vec<u64> {
-    let sender = name::SENDER.of(read.name);
+fn judge_lines(file: &SoundFile, read: &Read, sound: &SoundCall, marks: &[u8]) -> Vec<u64> {
+    let tests = LineTests {
+        is_debit: file.is_debit,
+        sender: name::SENDER.of(read.name),
+        stations: sound.stations.as_ref(),
+    };
     let lines = file.lines.chunks_exact(body::WIDTH);
     if file.is_debit {
-        let covers = Covers::new(book);
+        let covers = Covers::new(&sound.book);
         let mut earlier = HashSet::with_capacity(lines.len());
-        let word = |line| debit_word(line, sender, &covers, &mut earlier);
+        let word = |line| debit_word(line, &tests, &covers, &mut earlier);
         lines.map(word).collect()
     } else {
         let mut free = FreeDebits::new(read.debits, marks);
-        let word = |line| match form_fault(line, sender, false) {
+        let word = |line| match tests.fault(line) {
             Err(number) => number,
             Ok(_) => free.take(line).map_or(8, |debit| debit * 256),
         };
@@ -77,9 +101,14 @@ fn judge_lines(file: &SoundFile, read: &Read, book: &Book, marks: &[u8]) -> Vec<
     }
 }
 
-fn debit_word(line: &[u8], sender: &[u8], covers: &Covers, earlier: &mut HashSet<[u8; 61]>) -> u64 {
-    let is_new = earlier.insert(what_repeats(line));
-    match form_fault(line, sender, true) {
+fn debit_word(
+    line: &[u8],
+    tests: &LineTests,
+    covers: &Covers,
+    earlier: &mut HashSet<[u8; 61]>,
+) -> u64 {
+    let is_new = earlier.insert(joined(&body::REPEATED, line));
+    match tests.fault(line) {
         Err(number) => number,
         Ok(_) if !is_new => 6,
         Ok(moment) => {
@@ -89,46 +118,52 @@ fn debit_word(line: &[u8], sender: &[u8], covers: &Covers, earlier: &mut HashSet
     }
 }
 
-fn what_repeats(line: &[u8]) -> [u8; 61] {
-    let mut key = [0; 61];
-    let mut at = 0;
-    for columns in body::REPEATED {
-        let part = columns.of(line);
-        key[at..at + part.len()].copy_from_slice(part);
-        at += part.len();
-    }
-    key
+/// What a line alone is tested against.
+struct LineTests<'a> {
+    is_debit: bool,
+    sender: &'a [u8],
+    stations: Option<&'a Stations>,
 }
 
-/// The exit moment of a line that passes L1 to L5, or the first of them.
-fn form_fault(line: &[u8], sender: &[u8], is_debit: bool) -> Result<u64, u64> {
-    let lawful_type = match body::TYPE.of(line) {
-        b"C1" | b"D1" | b"C3" | b"D3" | b"C4" | b"C8" | b"D8" => is_debit,
-        b"R2" => !is_debit,
-        _ => false,
-    };
-    if !lawful_type {
-        return Err(1);
-    }
-    let moment = real_moment(body::EXIT_MOMENT.of(line)).ok_or(2u64)?;
-    let numbers = [body::STATION_AND_LANE, body::COUNTER, body::FEE_WITHOUT_VAT];
-    if !numbers.iter().all(|columns| all_digits(columns.of(line))) {
-        return Err(2);
-    }
-    if body::EXIT_ACTOR.of(line) != sender {
-        return Err(3);
-    }
-    if !is_known_vehicle(line) {
-        return Err(4);
-    }
-    let declared = (body::DECLARED_PLATE, body::DECLARED_NATION);
-    let detected = (body::DETECTED_PLATE, body::DETECTED_NATION);
-    for (plate, nation) in [declared, detected] {
-        if !is_lawful_plate(plate.of(line), nation.of(line)) {
+impl LineTests<'_> {
+    /// The exit moment of a line that passes L1 to L3, L9, L4 and L5, or the first
+    /// of them.
+    fn fault(&self, line: &[u8]) -> Result<u64, u64> {
+        let lawful_type = match body::TYPE.of(line) {
+            b"C1" | b"D1" | b"C3" | b"D3" | b"C4" | b"C8" | b"D8" => self.is_debit,
+            b"R2" => !self.is_debit,
+            _ => false,
+        };
+        if !lawful_type {
+            return Err(1);
+        }
+        let moment = real_moment(body::EXIT_MOMENT.of(line)).ok_or(2u64)?;
+        let numbers = [body::STATION_AND_LANE, body::COUNTER, body::FEE_WITHOUT_VAT];
+        if !numbers.iter().all(|columns| all_digits(columns.of(line))) {
+            return Err(2);
+        }
+        if body::EXIT_ACTOR.of(line) != self.sender {
+            return Err(3);
+        }
+        if self.stations.is_some_and(|stations| !stations.have(line)) {
+            return Err(9);
+        }
+        if !is_known_vehicle(line) {
+            return Err(4);
+        }
+        if !has_lawful_plates(line) {
             return Err(5);
         }
+        Ok(moment)
     }
-    Ok(moment)
+}
+
+fn has_lawful_plates(line: &[u8]) -> bool {
+    let declared = (body::DECLARED_PLATE, body::DECLARED_NATION);
+    let detected = (body::DETECTED_PLATE, body::DETECTED_NATION);
+    [declared, detected]
+        .iter()
+        .all(|(plate, nation)| is_lawful_plate(plate.of(line), nation.of(line)))
 }
 
 fn is_known_vehicle(line: &[u8]) -> bool {

@@ -1,9 +1,10 @@
 //! Reading a TIC: T1 to T5.
 
 use super::fields::{all_are, all_digits_or_capitals, number, real_moment};
-use super::file::{ends_in_line_feed, is_sequence};
+use super::file::{cut, ends_in_line_feed, is_sequence};
 use super::tic::SIDES;
 use reference::columns::{body, name, tic_footer, tic_header, tic_line};
+use reference::lines::TIC;
 
 /// The numbers of a header.
 struct Counts {
@@ -26,7 +27,7 @@ pub fn read_tic(tic: &[u8], values: &mut [u64; 7]) -> u32 {
 }
 
 fn try_read(tic: &[u8]) -> Result<[u64; 7], u32> {
-    let (header, lines, footer) = cut(tic).ok_or(1u32)?;
+    let (header, lines, footer) = cut_in_form(tic).ok_or(1u32)?;
     let counts = read_header(header).ok_or(2u32)?;
     let listed = (lines.len() / tic_line::WIDTH) as u64;
     if !counts_agree(&counts, listed) {
@@ -45,15 +46,9 @@ fn try_read(tic: &[u8]) -> Result<[u64; 7], u32> {
     ])
 }
 
-fn cut(tic: &[u8]) -> Option<(&[u8], &[u8], &[u8])> {
-    let width = tic
-        .len()
-        .checked_sub(tic_header::WIDTH + tic_footer::WIDTH)?;
-    if width % tic_line::WIDTH != 0 || width / tic_line::WIDTH > 9_999 {
-        return None;
-    }
-    let (header, rest) = tic.split_at(tic_header::WIDTH);
-    let (lines, footer) = rest.split_at(width);
+/// The parts, where the line feeds are right as well.
+fn cut_in_form(tic: &[u8]) -> Option<(&[u8], &[u8], &[u8])> {
+    let (header, lines, footer) = cut(tic, TIC)?;
     let in_form = ends_in_line_feed(header)
         && lines.chunks_exact(tic_line::WIDTH).all(ends_in_line_feed)
         && ends_in_line_feed(footer);

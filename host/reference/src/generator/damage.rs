@@ -5,14 +5,16 @@ use super::damage_book::BOOK_DAMAGES;
 use super::damage_call::CALL_DAMAGES;
 use super::damage_debits::DEBITS_DAMAGES;
 use super::damage_tif::TIF_DAMAGES;
+use super::damage_tst::TST_DAMAGES;
 use super::rng::Rng;
+use super::stations::lend_table;
 use super::world::World;
 use crate::call::Call;
 
 /// What a damage leads to when it stands alone.
 #[derive(Clone, Copy, Debug, PartialEq, Eq)]
 pub enum Gives {
-    /// A call number, E1 to E6.
+    /// A call number, E1 to E6 or E8.
     Refusal(usize),
     /// A file acceptance, 02 to 05.
     Acceptance(u64),
@@ -52,19 +54,27 @@ impl Draft {
             book: world.book.clone(),
         }
     }
+
+    /// The same with a station table made for the world's lines.
+    pub fn with_table(rng: &mut Rng, world: &World) -> Draft {
+        let mut draft = Draft::new(rng, world);
+        lend_table(rng, &mut draft.call, &world.lines);
+        draft
+    }
 }
 
-/// Every damage there is.
+/// Every damage there is; those that give E8 need a station table.
 pub fn all_damages() -> impl Iterator<Item = &'static Damage> {
     CALL_DAMAGES
         .iter()
         .chain(BOOK_DAMAGES)
         .chain(DEBITS_DAMAGES)
         .chain(TIF_DAMAGES)
+        .chain(TST_DAMAGES)
 }
 
 /// How often each result is aimed at, in parts.
-const AIMS: [(Gives, usize); 10] = [
+const AIMS: [(Gives, usize); 11] = [
     (Gives::Refusal(1), 8),
     (Gives::Refusal(2), 7),
     (Gives::Refusal(3), 5),
@@ -75,20 +85,29 @@ const AIMS: [(Gives, usize); 10] = [
     (Gives::Acceptance(3), 6),
     (Gives::Acceptance(4), 6),
     (Gives::Acceptance(5), 24),
+    STATIONS_AIM,
 ];
 
-/// A damage, aimed at one result and then any of those that give it.
-pub fn any_damage(rng: &mut Rng) -> &'static Damage {
-    let aim = any_aim(rng);
+/// Aimed at only where a table is lent, so it stands last.
+const STATIONS_AIM: (Gives, usize) = (Gives::Refusal(8), 24);
+
+/// A damage to such a call, aimed at one result and then any of those that give it.
+pub fn any_damage(rng: &mut Rng, call: &Call) -> &'static Damage {
+    let aims = if call.tst.is_empty() {
+        &AIMS[..AIMS.len() - 1]
+    } else {
+        &AIMS
+    };
+    let aim = any_aim(rng, aims);
     let fitting: Vec<&Damage> = all_damages().filter(|damage| damage.gives == aim).collect();
     let chosen = rng.below(fitting.len());
     fitting[chosen]
 }
 
-fn any_aim(rng: &mut Rng) -> Gives {
-    let parts = AIMS.iter().map(|(_, part)| part).sum();
+fn any_aim(rng: &mut Rng, aims: &[(Gives, usize)]) -> Gives {
+    let parts = aims.iter().map(|(_, part)| part).sum();
     let mut left = rng.below(parts);
-    for (gives, part) in AIMS {
+    for &(gives, part) in aims {
         if left < part {
             return gives;
         }

@@ -3,6 +3,7 @@
 use super::clock::unreal_moment;
 use super::damage::{replace_one, Damage, Draft, Gives, NOT_DIGITS, NOT_DIGIT_OR_CAPITAL};
 use super::rng::Rng;
+use crate::call::card_width;
 
 const fn damage(
     number: usize,
@@ -81,7 +82,9 @@ pub const CALL_DAMAGES: &[Damage] = &[
         true
     }),
     damage(3, "card of another length", |rng, draft| {
-        let length = *rng.pick(&[0, 8, 14, 15, 17, 18]);
+        // As long as it would be right without the table, or with one.
+        let other = card_width(draft.call.tst.is_empty());
+        let length = *rng.pick(&[0, 8, 14, 15, 17, other]);
         draft.call.card.resize(length, b'0');
         true
     }),

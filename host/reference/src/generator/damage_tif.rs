@@ -1,7 +1,8 @@
 //! Damages to the TIF, one for each cause of 05, then 03 and 04; and 02.
 
 use super::clock::unreal_moment;
-use super::damage::{replace_one, Damage, Draft, Gives, NOT_DIGITS};
+use super::damage::{replace_one, Damage, Draft, Gives};
+use super::file_draft::{FileDraft, Part};
 use super::passage::actor;
 use super::rng::Rng;
 use crate::columns::{body, tif_footer, tif_header as header, Columns};
@@ -20,101 +21,34 @@ const fn damage(
     }
 }
 
-/// Header, a body line or footer of a TIF whose length is right.
-#[derive(Clone, Copy)]
-enum Part {
-    Header,
-    Line,
-    Footer,
+/// The TIF of a draft.
+fn tif(draft: &mut Draft) -> FileDraft<'_> {
+    FileDraft {
+        bytes: &mut draft.call.tif,
+        layout: TIF,
+    }
 }
 
-const PARTS: [Part; 3] = [Part::Header, Part::Line, Part::Footer];
-
-/// The bytes of a part, any line of the body for a line; nothing if there is none.
-fn part<'a>(rng: &mut Rng, draft: &'a mut Draft, part: Part) -> Option<&'a mut [u8]> {
-    let tif = &mut draft.call.tif;
-    let lines = TIF.lines_in(tif.len())?;
-    let place = match part {
-        Part::Header => 0..header::WIDTH,
-        Part::Line if lines == 0 => return None,
-        Part::Line => {
-            let start = TIF.place_of_line(1 + rng.below(lines));
-            start..start + body::WIDTH
-        }
-        Part::Footer => tif.len() - tif_footer::WIDTH..tif.len(),
-    };
-    Some(&mut tif[place])
-}
-
-/// Changes some columns of a part.
-fn change(
+/// Changes some columns of the header.
+fn change_header(
     rng: &mut Rng,
     draft: &mut Draft,
-    of: Part,
     columns: Columns,
     change: impl Fn(&mut Rng, &mut [u8]),
 ) -> bool {
-    let choice = part(rng, draft, of).map(|text| {
-        let mut field = columns.of(text).to_vec();
-        change(rng, &mut field);
-        columns.put(text, &field);
-    });
-    choice.is_some()
+    tif(draft).change(rng, Part::Header, columns, change)
 }
 
-/// Replaces a digit field's byte by one that is no digit.
-fn break_digits(rng: &mut Rng, draft: &mut Draft, of: Part, columns: Columns) -> bool {
-    change(rng, draft, of, columns, |rng, field| {
-        if rng.once_in(3) {
-            field[0] = b' ';
-        } else {
-            replace_one(rng, field, NOT_DIGITS);
-        }
-    })
+/// Adds to the header's records.
+fn add_to_records(draft: &mut Draft, by: i64) {
+    tif(draft).add_to(header::RECORDS.offset(), by);
 }
 
-/// Adds to a digit field, staying within its width.
-fn add_to(draft: &mut Draft, place: usize, by: i64) {
-    let field = &mut draft.call.tif[place..place + 15];
-    let value = digits_value(field).expect("a field of digits") as i64;
-    let moved = (value + by).rem_euclid(1_000_000_000_000_000) as u64;
-    field.copy_from_slice(&padded(moved, 15));
-}
-
-fn line_feed_missing(rng: &mut Rng, draft: &mut Draft) -> bool {
-    let chosen = *rng.pick(&PARTS);
-    let choice = part(rng, draft, chosen).map(|text| {
-        *text.last_mut().expect("a part is not empty") = *rng.pick(b"0 \r\x0B");
-    });
-    choice.is_some()
-}
-
-fn line_feed_elsewhere(rng: &mut Rng, draft: &mut Draft) -> bool {
-    let chosen = *rng.pick(&PARTS);
-    let choice = part(rng, draft, chosen).map(|text| {
-        let inside = text.len() - 1;
-        text[rng.below(inside)] = b'\n';
-    });
-    choice.is_some()
-}
-
-fn line_feed_moved(rng: &mut Rng, draft: &mut Draft) -> bool {
-    let chosen = *rng.pick(&PARTS);
-    let choice = part(rng, draft, chosen).map(|text| {
-        let last = text.len() - 1;
-        text.swap(last, last - 1);
-    });
-    choice.is_some()
-}
-
-fn register_wrong(rng: &mut Rng, draft: &mut Draft) -> bool {
-    let (chosen, wrong): (Part, &[u8]) = *rng.pick(&[
-        (Part::Header, b"12 \x00".as_slice()),
-        (Part::Line, b"02 \x01".as_slice()),
-        (Part::Footer, b"013 ".as_slice()),
-    ]);
-    let choice = part(rng, draft, chosen).map(|text| text[0] = *rng.pick(wrong));
-    choice.is_some()
+/// Adds to the footer's total.
+fn add_to_total(draft: &mut Draft, by: i64) {
+    let mut tif = tif(draft);
+    let total = tif.footer_place() + tif_footer::TOTAL.offset();
+    tif.add_to(total, by);
 }
 
 pub const TIF_DAMAGES: &[Damage] = &[
@@ -144,95 +78,87 @@ pub const TIF_DAMAGES: &[Damage] = &[
         true
     }),
     damage(5, "file with a byte put in", |rng, draft| {
-        let at = rng.below(draft.call.tif.len());
-        draft.call.tif.insert(at, *rng.pick(b"0 \r\n"));
-        true
+        tif(draft).put_byte_in(rng)
     }),
     damage(5, "file with a byte taken out", |rng, draft| {
-        let at = rng.below(draft.call.tif.len());
-        draft.call.tif.remove(at);
-        true
+        tif(draft).take_byte_out(rng)
     }),
-    damage(5, "line feed missing", line_feed_missing),
-    damage(5, "line feed elsewhere", line_feed_elsewhere),
-    damage(5, "line feed one place early", line_feed_moved),
-    damage(5, "column 1 wrong", register_wrong),
+    damage(5, "line feed missing", |rng, draft| {
+        tif(draft).lose_line_feed(rng)
+    }),
+    damage(5, "line feed elsewhere", |rng, draft| {
+        tif(draft).put_line_feed_elsewhere(rng)
+    }),
+    damage(5, "line feed one place early", |rng, draft| {
+        tif(draft).move_line_feed(rng)
+    }),
+    damage(5, "column 1 wrong", |rng, draft| {
+        tif(draft).spoil_register(rng)
+    }),
     damage(5, "sender unlike the name", |rng, draft| {
-        change(rng, draft, Part::Header, header::SENDER, other_actor)
+        change_header(rng, draft, header::SENDER, other_actor)
     }),
     damage(5, "receiver unlike the name", |rng, draft| {
-        change(rng, draft, Part::Header, header::RECEIVER, other_actor)
+        change_header(rng, draft, header::RECEIVER, other_actor)
     }),
     damage(5, "sequence unlike the name", |rng, draft| {
-        change(
-            rng,
-            draft,
-            Part::Header,
-            header::FILE_SEQUENCE,
-            |rng, field| {
-                let place = rng.below(field.len());
-                field[place] = if field[place] == b'7' { b'8' } else { b'7' };
-            },
-        )
+        change_header(rng, draft, header::FILE_SEQUENCE, |rng, field| {
+            let place = rng.below(field.len());
+            field[place] = if field[place] == b'7' { b'8' } else { b'7' };
+        })
     }),
     damage(5, "currency not NOK", |rng, draft| {
-        change(rng, draft, Part::Header, header::CURRENCY, |rng, field| {
+        change_header(rng, draft, header::CURRENCY, |rng, field| {
             field.copy_from_slice(*rng.pick(&[b"SEK", b"EUR", b"nok", b"NO ", b"000"]));
         })
     }),
     damage(5, "neither CRE nor DEB", |rng, draft| {
-        change(rng, draft, Part::Header, header::SIDE, |rng, field| {
+        change_header(rng, draft, header::SIDE, |rng, field| {
             field.copy_from_slice(*rng.pick(&[b"000", b"deb", b"CRD", b"DEC", b"   ", b"CR\x00"]));
         })
     }),
     damage(5, "version not 130001", |rng, draft| {
-        change(rng, draft, Part::Header, header::VERSION, |rng, field| {
+        change_header(rng, draft, header::VERSION, |rng, field| {
             replace_one(rng, field, b"29 A");
         })
     }),
     damage(5, "creation moment not real", |rng, draft| {
-        change(rng, draft, Part::Header, header::CREATION, |rng, field| {
+        change_header(rng, draft, header::CREATION, |rng, field| {
             field.copy_from_slice(&unreal_moment(rng));
         })
     }),
     damage(5, "records not digits", |rng, draft| {
-        break_digits(rng, draft, Part::Header, header::RECORDS)
+        tif(draft).break_digits(rng, Part::Header, header::RECORDS)
     }),
     damage(5, "transactions not digits", |rng, draft| {
-        break_digits(rng, draft, Part::Header, header::TRANSACTIONS)
+        tif(draft).break_digits(rng, Part::Header, header::TRANSACTIONS)
     }),
     damage(5, "total not digits", |rng, draft| {
-        break_digits(rng, draft, Part::Footer, tif_footer::TOTAL)
+        tif(draft).break_digits(rng, Part::Footer, tif_footer::TOTAL)
     }),
     damage(5, "amount with VAT not digits", |rng, draft| {
-        break_digits(rng, draft, Part::Line, body::AMOUNT_WITH_VAT)
+        tif(draft).break_digits(rng, Part::Line, body::AMOUNT_WITH_VAT)
     }),
     damage(5, "header filler not zeros", |rng, draft| {
-        change(rng, draft, Part::Header, header::FILLER, |rng, field| {
+        change_header(rng, draft, header::FILLER, |rng, field| {
             replace_one(rng, field, b"1 \x00O");
         })
     }),
     damage(5, "footer filler not zeros", |rng, draft| {
-        change(
-            rng,
-            draft,
-            Part::Footer,
-            tif_footer::FILLER,
-            |rng, field| {
-                replace_one(rng, field, b"1 \x00O");
-            },
-        )
+        tif(draft).change(rng, Part::Footer, tif_footer::FILLER, |rng, field| {
+            replace_one(rng, field, b"1 \x00O");
+        })
     }),
     damage(5, "filler, counts and total all wrong", |_, draft| {
         let footer = draft.call.tif.len() - tif_footer::WIDTH;
         draft.call.tif[footer + tif_footer::FILLER.offset()] = b' ';
-        add_to(draft, header::RECORDS.offset(), 1);
-        add_to(draft, footer + tif_footer::TOTAL.offset(), 1);
+        add_to_records(draft, 1);
+        add_to_total(draft, 1);
         true
     }),
     damage(3, "records differ", |rng, draft| {
         let by = *rng.pick(&[1, -1, 10_000, 65_536, 1 << 32, 100_000_000_000_000]);
-        add_to(draft, header::RECORDS.offset(), by);
+        add_to_records(draft, by);
         true
     }),
     damage(3, "transactions neither zero nor all", |rng, draft| {
@@ -243,28 +169,20 @@ pub const TIF_DAMAGES: &[Damage] = &[
         true
     }),
     damage(3, "counts and total both differ", |rng, draft| {
-        add_to(draft, header::RECORDS.offset(), 1);
-        let total = draft.call.tif.len() - tif_footer::WIDTH + tif_footer::TOTAL.offset();
-        add_to(draft, total, rng.between(1, 99) as i64);
+        add_to_records(draft, 1);
+        add_to_total(draft, rng.between(1, 99) as i64);
         true
     }),
     damage(4, "total differs", |rng, draft| {
         let by = *rng.pick(&[1, -1, 100, 1 << 32, -(1 << 32), 900_000_000_000_000]);
-        let total = draft.call.tif.len() - tif_footer::WIDTH + tif_footer::TOTAL.offset();
-        add_to(draft, total, by);
+        add_to_total(draft, by);
         true
     }),
     damage(4, "an amount differs", |rng, draft| {
-        change(
-            rng,
-            draft,
-            Part::Line,
-            body::AMOUNT_WITH_VAT,
-            |rng, field| {
-                let place = rng.below(field.len());
-                field[place] = if field[place] == b'3' { b'4' } else { b'3' };
-            },
-        )
+        tif(draft).change(rng, Part::Line, body::AMOUNT_WITH_VAT, |rng, field| {
+            let place = rng.below(field.len());
+            field[place] = if field[place] == b'3' { b'4' } else { b'3' };
+        })
     }),
     damage(4, "total of the fees without VAT", |_, draft| {
         let tif = &mut draft.call.tif;

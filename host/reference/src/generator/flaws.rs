@@ -213,7 +213,7 @@ fn uncover(rng: &mut Rng, line: &mut [u8]) {
 }
 
 /// Changes one byte of one of the columns, to a digit or capital.
-fn change_one(rng: &mut Rng, choices: &[Columns], line: &mut [u8]) {
+pub fn change_one(rng: &mut Rng, choices: &[Columns], line: &mut [u8]) {
     let columns = *rng.pick(choices);
     let place = columns.offset() + rng.below(columns.width());
     line[place] = match line[place] {

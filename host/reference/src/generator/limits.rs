@@ -3,6 +3,7 @@
 use super::book_model::{agreement, rising_pans, BookModel};
 use super::passage::{any_passage, filled_plate, line};
 use super::rng::Rng;
+use super::stations::lend_large_table;
 use super::world::{Size, World};
 use super::{clock::any_moment, damage::Draft};
 use crate::acceptance::Side;
@@ -18,6 +19,10 @@ pub enum Limit {
     DebitLines(usize),
     CreditLines(usize),
     RefusedLines(usize),
+    /// A table of so many stations, with a few lines.
+    Stations(usize),
+    /// As many lines as stations, most lines at one of them.
+    LinesAndStations(usize),
 }
 
 /// Limits of the book alone, of up to one megabyte.
@@ -39,6 +44,9 @@ const LINE_LIMITS: [Limit; 7] = [
     Limit::RefusedLines(MOST_LINES),
 ];
 
+/// Limits of the station table, of two megabytes.
+const STATION_LIMITS: [Limit; 2] = [Limit::Stations(MOST_LINES), Limit::Stations(MOST_LINES + 1)];
+
 /// A limit for this seed, rarely; the larger ones more rarely.
 pub fn rare_limit(seed: u64) -> Option<Limit> {
     if seed % 250 == 83 {
@@ -47,11 +55,23 @@ pub fn rare_limit(seed: u64) -> Option<Limit> {
     if seed % 1_000 == 417 {
         return Some(LINE_LIMITS[(seed / 1_000 % 7) as usize]);
     }
+    if seed % 10_000 == 1_751 {
+        return Some(STATION_LIMITS[(seed / 10_000 % 2) as usize]);
+    }
     None
 }
 
 /// A call that is sound but for its size.
 pub fn at_limit(rng: &mut Rng, limit: Limit) -> Draft {
+    let world = world_at(rng, limit);
+    let mut draft = Draft::new(rng, &world);
+    if let Limit::Stations(count) | Limit::LinesAndStations(count) = limit {
+        lend_large_table(rng, &mut draft.call, &world.lines, count);
+    }
+    draft
+}
+
+fn world_at(rng: &mut Rng, limit: Limit) -> World {
     let mut size = Size {
         agreements: 3,
         periods: 2,
@@ -65,8 +85,10 @@ pub fn at_limit(rng: &mut Rng, limit: Limit) -> Draft {
     match limit {
         Limit::Agreements(count) => size.agreements = count,
         Limit::Debits(count) => size.debits = count,
-        Limit::DebitLines(count) | Limit::CreditLines(count) => size.lines = count,
-        Limit::BookBytes(_) | Limit::RefusedLines(_) => {}
+        Limit::DebitLines(count) | Limit::CreditLines(count) | Limit::LinesAndStations(count) => {
+            size.lines = count
+        }
+        Limit::BookBytes(_) | Limit::RefusedLines(_) | Limit::Stations(_) => {}
     }
     if let Limit::Agreements(_) = limit {
         size.periods = 1;
@@ -78,7 +100,7 @@ pub fn at_limit(rng: &mut Rng, limit: Limit) -> Draft {
     if let Limit::RefusedLines(count) = limit {
         refuse_all(rng, &mut world, count);
     }
-    Draft::new(rng, &world)
+    world
 }
 
 /// Lines whose amounts are the largest there are, none of them covered.

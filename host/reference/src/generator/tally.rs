@@ -7,12 +7,12 @@ use crate::tic_reader::listed_place;
 /// How often each answer occurred.
 #[derive(Clone, Debug, Default, PartialEq, Eq)]
 pub struct Tally {
-    /// E1 to E7.
-    pub call_numbers: [usize; 7],
+    /// E1 to E8.
+    pub call_numbers: [usize; 8],
     /// 00 to 05.
     pub acceptances: [usize; 6],
-    /// L1 to L8.
-    pub refusals: [usize; 8],
+    /// L1 to L9.
+    pub refusals: [usize; 9],
     /// Lines accepted by a period, and by a debit.
     pub covered: usize,
     pub credited: usize,

@@ -112,7 +112,7 @@ impl World {
         write_tif(&values, &self.lines)
     }
 
-    /// The call, with no room lent yet.
+    /// The call, with no room and no station table lent yet.
     pub fn call(&self, rng: &mut Rng) -> Call {
         Call {
             name: self.name.clone(),
@@ -123,6 +123,7 @@ impl World {
             debits: self.debits.concat(),
             marks: self.marks.clone(),
             tif: self.tif(rng),
+            tst: Vec::new(),
             records_lent: 0,
             output_length: 0,
         }

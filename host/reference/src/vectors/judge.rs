@@ -1,27 +1,31 @@
 //! Vectors for whole calls: `C` with name, reception moment, card, received
-//! names, a part as long as there are records, book, debits, marks, TIF and
-//! output. The answer is the call's number or the printed values and the length
+//! names, a part as long as there are records, book, debits, marks, TIF, station
+//! table and output. The answer is the call's number or the printed values and the length
 //! of the TIC, then ` /` and the marks afterwards, ` /` and number, word, amount
 //! and fee of each line, ` /` and the output afterwards, line feeds and all.
 
 use super::Case;
 use crate::acceptance::Side;
 use crate::call::{judge, Answer, Call, Record};
-use crate::generator::damage::{all_damages, Damage, Draft};
+use crate::generator::damage::{all_damages, Damage, Draft, Gives};
 use crate::generator::rng::Rng;
 use crate::generator::room::{lend_enough, needed};
 use crate::generator::world::{Size, World};
 
 /// What the program has room for, in the order of the parts.
-const PART_LIMITS: [usize; 10] = [80, 40, 40, 400, 20, 4_096, 16_200, 20, 16_500, 16_600];
+const PART_LIMITS: [usize; 11] = [
+    80, 40, 40, 400, 20, 4_096, 16_200, 20, 16_500, 3_000, 16_600,
+];
 const ATTEMPTS: usize = 100;
 
-/// Sound calls, every damage, and room that is just too little or just enough.
+/// Sound calls with a station table and without, every damage, and room that is
+/// just too little or just enough.
 pub fn cases() -> Vec<Case> {
     let mut rng = Rng::new(0, 108);
     let mut cases = Vec::new();
     for side in [Side::Debit, Side::Credit] {
-        cases.extend((0..9).map(|_| sound_case(&mut rng, side)));
+        cases.extend((0..9).map(|_| sound_case(&mut rng, side, Draft::new)));
+        cases.extend((0..9).map(|_| sound_case(&mut rng, side, Draft::with_table)));
         cases.extend((0..3).flat_map(|_| room_cases(&mut rng, side)));
     }
     cases.extend(all_damages().filter_map(|damage| damaged_case(&mut rng, damage)));
@@ -34,11 +38,12 @@ fn drawn<T>(mut draw: impl FnMut() -> Option<T>) -> Option<T> {
     (0..ATTEMPTS).find_map(|_| draw())
 }
 
-fn sound_case(rng: &mut Rng, side: Side) -> Case {
+fn sound_case(rng: &mut Rng, side: Side, draft: fn(&mut Rng, &World) -> Draft) -> Case {
     let sizes = [0, 1, 2, 4, 7];
     let found = drawn(|| {
         let lines = *rng.pick(&sizes);
-        let mut call = small_world(rng, side, lines).call(rng);
+        let world = small_world(rng, side, lines);
+        let mut call = draft(rng, &world).call;
         lend_enough(rng, &mut call);
         case(rng, &call)
     });
@@ -61,7 +66,10 @@ fn damaged_case(rng: &mut Rng, damage: &Damage) -> Option<Case> {
         let side = *rng.pick(&[Side::Debit, Side::Credit]);
         let lines = *rng.pick(&[1, 1, 2]);
         let world = small_world(rng, side, lines);
-        let mut draft = Draft::new(rng, &world);
+        let mut draft = match damage.gives {
+            Gives::Refusal(8) => Draft::with_table(rng, &world),
+            _ => Draft::new(rng, &world),
+        };
         if !(damage.apply)(rng, &mut draft) {
             return None;
         }
@@ -90,7 +98,7 @@ fn room_cases(rng: &mut Rng, side: Side) -> Vec<Case> {
 fn case(rng: &mut Rng, call: &Call) -> Option<Case> {
     let output = vec![*rng.pick(b"#.x~"); call.output_length];
     let records = vec![b'R'; call.records_lent];
-    let parts: [&[u8]; 10] = [
+    let parts: [&[u8]; 11] = [
         &call.name,
         &call.reception,
         &call.card,
@@ -100,6 +108,7 @@ fn case(rng: &mut Rng, call: &Call) -> Option<Case> {
         &call.debits,
         &call.marks,
         &call.tif,
+        &call.tst,
         &output,
     ];
     let fits = |(part, limit): (&&[u8], usize)| part.len() <= limit;

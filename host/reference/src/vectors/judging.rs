@@ -35,7 +35,7 @@ fn case(rng: &mut Rng) -> Case {
 fn answer(world: &World, call: &Call) -> String {
     let book = Book::read(&call.book).expect("a sound book");
     let debits = Debits::read(&call.debits, &call.marks).expect("sound debits");
-    let mut judging = Judging::new(world.side, world.sender(), &book, debits);
+    let mut judging = Judging::new(world.side, world.sender(), None, &book, debits);
     let words: Vec<u64> = world
         .lines
         .iter()

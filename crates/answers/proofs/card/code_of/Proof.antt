@@ -6,8 +6,8 @@ use Rattle.answers.specs.Card.{codeOf}
 use Rattle.answers.proofs.card.code_of.Statement.{statement}
 use Rattle.answers.proofs.card.code_of.Tie as tie
 
-mul-end : tie.Need-mul-end
-mul-end c = search needs
+code-end-requires : tie.Need-code-end-requires
+code-end-requires c κs = search needs
 
 sub-result : tie.Need-sub-result
 sub-result c = search needs
@@ -24,11 +24,12 @@ part-result-end c = search needs
 returns : tie.Need-returns
 unfolding codeOf
 returns c =
-    let a = c .before .args in
-    let e : a .k * 2 - (a .k * 2 - 2) ≡ a .k * 2 + 1 - (a .k * 2 - 1) = omega arith in
-    let f : a .k * 2 - 2 ≡ a .k * 2 - 1 - 1 = omega arith in
+    let z = c .before in
+    let a = z .before .before .args in
+    let e : z .code-end .result - (z .code-end .result - 2) ≡ a .k * 2 + 1 - (a .k * 2 - 1) = omega (arith, z .code-end .ensures) in
+    let f : z .code-end .result - 2 ≡ a .k * 2 - 1 - 1 = omega (arith, z .code-end .ensures) in
     rw (e, f)
 
 pub code-of-spec : {M : Type 1} → statement M
 code-of-spec =
-    tie.close (tie.spec mul-end sub-result sub-result-2 part-result-start part-result-end returns)
+    tie.close (tie.spec code-end-requires sub-result sub-result-2 part-result-start part-result-end returns)

@@ -32,7 +32,7 @@ code-of-requires : tie.Need-code-of-requires
 code-of-requires c κs =
     let z = c .before .before in
     let s = entry z in
-    rw (z .before .number-at .ensures) (record { counted = omega (arith, numbered z); known = s .pre .0 .known (s .args .k) (s .pre .1); long = s .pre .0 .carded })
+    rw (z .before .number-at .ensures) (record { counted = omega (arith, numbered z); known = s .pre .0 .known (s .args .k) (s .pre .1) })
 
 -- the line and the code that were cut
 line-is : (c : tie.After-code-of) → let s = entry (c .before .before .before) in c .before .tif-line .result .now ≡ lineAt (s .args .tif .now) (s .args .k)

@@ -27,11 +27,11 @@ same-length-2 c = search needs
 
 returns : tie.Need-returns
 returns c =
-    let s = c .before .before .before .before .before .before .before .before .before .before .before .before .before .before .before .before .before .before .before .before .before in
+    let s = c .before .before .before .before .before .before .before .before .before .before .before .before .before .before .before .before .before .before .before .before .before .before in
     let a = s .args in
     let p = c .before .before .before .before .before .before .before .before .before .put-bytes in
     c .before .before .before .before .judge-lent .ensures .answer
-    ∙ answer-on-copy (a .name .now) (a .received .now) (a .card .now) (a .names .now) (a .book .now) (a .debits .now) (a .marks .now) (a .tif .now) (a .copy .now) (p .last .0) (a .out .now) (p .result) (p .ensures) (s .pre .1)
+    ∙ answer-on-copy (a .name .now) (a .received .now) (a .card .now) (a .names .now) (a .book .now) (a .debits .now) (a .marks .now) (a .tif .now) (a .tst .now) (a .copy .now) (p .last .0) (a .out .now) (p .result) (p .ensures) (s .pre .1)
 
 pub judge-copied-spec : {M : Type 1} → statement M
 judge-copied-spec =

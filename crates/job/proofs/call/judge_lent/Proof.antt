@@ -106,7 +106,7 @@ abbrev Lent-u8 : Lft → RefT (List ℕ) → Fml
 Lent-u8 κ x = MutSlice (named 0) κ u8 .own x (sliceVal (x .ptr) (length (x .now)) ∷ [])
 
 abbrev stayed : Stays (here.ended .signature .params) (here.ended .kept)
-stayed = (stay-none-slice (0 ∷ []) tt (plain (λ _. u8)) kept, (stay-none-slice (1 ∷ []) tt (plain (λ _. u8)) kept, (stay-none-slice (2 ∷ []) tt (plain (λ _. u8)) kept, (stay-none-slice (3 ∷ []) tt (plain (λ _. u8)) kept, (stay-none-slice (4 ∷ []) tt (plain (λ _. u8)) kept, (stay-none-slice (5 ∷ []) tt (plain (λ _. u8)) kept, (gave-slice (6 ∷ []) tt (plain (λ _. u8)), (stay-none-slice (7 ∷ []) tt (plain (λ _. u8)) kept, (gave-slice (8 ∷ []) tt (plain (λ _. u8)), tt)))))))))
+stayed = (stay-none-slice (0 ∷ []) tt (plain (λ _. u8)) kept, (stay-none-slice (1 ∷ []) tt (plain (λ _. u8)) kept, (stay-none-slice (2 ∷ []) tt (plain (λ _. u8)) kept, (stay-none-slice (3 ∷ []) tt (plain (λ _. u8)) kept, (stay-none-slice (4 ∷ []) tt (plain (λ _. u8)) kept, (stay-none-slice (5 ∷ []) tt (plain (λ _. u8)) kept, (gave-slice (6 ∷ []) tt (plain (λ _. u8)), (stay-none-slice (7 ∷ []) tt (plain (λ _. u8)) kept, (stay-none-slice (8 ∷ []) tt (plain (λ _. u8)) kept, (gave-slice (9 ∷ []) tt (plain (λ _. u8)), tt))))))))))
 
 -- the contracts that the proof cites
 module _ {M : Type 1} (𝓤 : URA M) (H : Heap 𝓤) (A : Atoms 𝓤) (mem : Memory → SProp 𝓤) (run : Routine → Fun 𝓤) where
@@ -117,7 +117,7 @@ module _ {M : Type 1} (𝓤 : URA M) (H : Heap 𝓤) (A : Atoms 𝓤) (mem : Mem
   Judge = tripleOf 𝓤 H A judge.signature (judge.spec 𝓤 H A mem run)
 
 module _ {M : Type 1} (𝓤 : URA M) (H : Heap 𝓤) (A : Atoms 𝓤) (W : Given 𝓤 H A) (mem : Memory → SProp 𝓤) (run : Routine → Fun 𝓤)
-    (κ₀ κ₁ κ₂ κ₃ κ₄ κ₅ κ₆ κ₇ κ₈ : Lft) (q₀ q₁ q₂ q₃ q₄ q₅ q₆ q₇ q₈ : Share) (x₀ x₁ x₂ x₃ x₄ x₅ x₆ x₇ x₈ : RefT (List ℕ)) where
+    (κ₀ κ₁ κ₂ κ₃ κ₄ κ₅ κ₆ κ₇ κ₈ κ₉ : Lft) (q₀ q₁ q₂ q₃ q₄ q₅ q₆ q₇ q₈ q₉ : Share) (x₀ x₁ x₂ x₃ x₄ x₅ x₆ x₇ x₈ x₉ : RefT (List ℕ)) where
   abbrev s₀ : Val
   s₀ = sliceVal (x₀ .ptr) (length (x₀ .now))
 
@@ -145,20 +145,23 @@ module _ {M : Type 1} (𝓤 : URA M) (H : Heap 𝓤) (A : Atoms 𝓤) (W : Given
   abbrev s₈ : Val
   s₈ = sliceVal (x₈ .ptr) (length (x₈ .now))
 
+  abbrev s₉ : Val
+  s₉ = sliceVal (x₉ .ptr) (length (x₉ .now))
+
   abbrev Arg : Type 0
-  Arg = RefT (List ℕ) × (RefT (List ℕ) × (RefT (List ℕ) × (RefT (List ℕ) × (RefT (List ℕ) × (RefT (List ℕ) × (RefT (List ℕ) × (RefT (List ℕ) × (RefT (List ℕ) × Unit {0}))))))))
+  Arg = RefT (List ℕ) × (RefT (List ℕ) × (RefT (List ℕ) × (RefT (List ℕ) × (RefT (List ℕ) × (RefT (List ℕ) × (RefT (List ℕ) × (RefT (List ℕ) × (RefT (List ℕ) × (RefT (List ℕ) × Unit {0})))))))))
 
   abbrev a : Arg
-  a = (x₀, (x₁, (x₂, (x₃, (x₄, (x₅, (x₆, (x₇, (x₈, tt)))))))))
+  a = (x₀, (x₁, (x₂, (x₃, (x₄, (x₅, (x₆, (x₇, (x₈, (x₉, tt))))))))))
 
-  abbrev vals : List Val × (List Val × (List Val × (List Val × (List Val × (List Val × (List Val × (List Val × (List Val × Unit {0}))))))))
-  vals = (s₀ ∷ [], (s₁ ∷ [], (s₂ ∷ [], (s₃ ∷ [], (s₄ ∷ [], (s₅ ∷ [], (s₆ ∷ [], (s₇ ∷ [], (s₈ ∷ [], tt)))))))))
+  abbrev vals : List Val × (List Val × (List Val × (List Val × (List Val × (List Val × (List Val × (List Val × (List Val × (List Val × Unit {0})))))))))
+  vals = (s₀ ∷ [], (s₁ ∷ [], (s₂ ∷ [], (s₃ ∷ [], (s₄ ∷ [], (s₅ ∷ [], (s₆ ∷ [], (s₇ ∷ [], (s₈ ∷ [], (s₉ ∷ [], tt))))))))))
 
   abbrev Post : Val → SProp 𝓤
-  Post = walkOf 𝓤 H A here.ended stayed (here.clauses 𝓤 H A mem run) .post (((κ₀, (κ₁, (κ₂, (κ₃, (κ₄, (κ₅, (κ₆, (κ₇, (κ₈, tt))))))))), (q₀, (q₁, (q₂, (q₃, (q₄, (q₅, (q₆, (q₇, (q₈, tt))))))))), tt, a, vals), tt)
+  Post = walkOf 𝓤 H A here.ended stayed (here.clauses 𝓤 H A mem run) .post (((κ₀, (κ₁, (κ₂, (κ₃, (κ₄, (κ₅, (κ₆, (κ₇, (κ₈, (κ₉, tt)))))))))), (q₀, (q₁, (q₂, (q₃, (q₄, (q₅, (q₆, (q₇, (q₈, (q₉, tt)))))))))), tt, a, vals), tt)
 
   abbrev call-of : ℕ → Call
-  call-of room = callOf (x₀ .now) (x₁ .now) (x₂ .now) (x₃ .now) (x₄ .now) (x₅ .now) (x₆ .now) (x₇ .now) room (x₈ .now)
+  call-of room = callOf (x₀ .now) (x₁ .now) (x₂ .now) (x₃ .now) (x₄ .now) (x₅ .now) (x₆ .now) (x₇ .now) (x₈ .now) room (x₉ .now)
 
   abbrev records-at : ℕ → GName → List Record → RefT (List Record)
   records-at b δ z = record { ptr = (b, 0); name = δ; now = z }
@@ -170,19 +173,21 @@ module _ {M : Type 1} (𝓤 : URA M) (H : Heap 𝓤) (A : Atoms 𝓤) (W : Given
   asked-blank : ent 𝓤 (emp 𝓤) (Blank 𝓤 H A mem run .pre to-blank)
   asked-blank = qed W [] ∵ nothing ! $ nothing ! $ join ! $ frame ! $ done !
 
-  abbrev judge-lfts : ℕ → Lft × (Lft × (Lft × (Lft × (Lft × (Lft × (Lft × (Lft × (Lft × (Lft × Unit {0})))))))))
-  judge-lfts ν = (κ₀, (κ₁, (κ₂, (κ₃, (κ₄, (κ₅, (κ₆, (κ₇, (ν ∷ [], (κ₈, tt))))))))))
+  abbrev judge-lfts : ℕ → Lft × (Lft × (Lft × (Lft × (Lft × (Lft × (Lft × (Lft × (Lft × (Lft × (Lft × Unit {0}))))))))))
+  judge-lfts ν = (κ₀, (κ₁, (κ₂, (κ₃, (κ₄, (κ₅, (κ₆, (κ₇, (κ₈, (ν ∷ [], (κ₉, tt)))))))))))
 
-  abbrev judge-args : ℕ → GName → List Record → RefT (List ℕ) × (RefT (List ℕ) × (RefT (List ℕ) × (RefT (List ℕ) × (RefT (List ℕ) × (RefT (List ℕ) × (RefT (List ℕ) × (RefT (List ℕ) × (RefT (List Record) × (RefT (List ℕ) × Unit {0})))))))))
-  judge-args b δ z = (x₀, (x₁, (x₂, (x₃, (x₄, (x₅, (x₆, (x₇, (records-at b δ z, (x₈, tt))))))))))
+  abbrev judge-args : ℕ → GName → List Record → RefT (List ℕ) × (RefT (List ℕ) × (RefT (List ℕ) × (RefT (List ℕ) × (RefT (List ℕ) × (RefT (List ℕ) × (RefT (List ℕ) × (RefT (List ℕ) × (RefT (List ℕ) × (RefT (List Record) × (RefT (List ℕ) × Unit {0}))))))))))
+  judge-args b δ z = (x₀, (x₁, (x₂, (x₃, (x₄, (x₅, (x₆, (x₇, (x₈, (records-at b δ z, (x₉, tt)))))))))))
 
   abbrev to-judge : ℕ → ℕ → GName → List Record → Judge 𝓤 H A mem run .Ghost
-  to-judge b ν δ z = ((judge-lfts ν, (q₀, (q₁, (q₂, (q₃, (q₄, (q₅, (q₆, (q₇, (fullShare, (q₈, tt)))))))))), tt, judge-args b δ z, (s₀ ∷ [], (s₁ ∷ [], (s₂ ∷ [], (s₃ ∷ [], (s₄ ∷ [], (s₅ ∷ [], (s₆ ∷ [], (s₇ ∷ [], (sliceVal (b, 0) (length z) ∷ [], (s₈ ∷ [], tt))))))))))), tt)
+  to-judge b ν δ z = ((judge-lfts ν, (q₀, (q₁, (q₂, (q₃, (q₄, (q₅, (q₆, (q₇, (q₈, (fullShare, (q₉, tt))))))))))), tt, judge-args b δ z, (s₀ ∷ [], (s₁ ∷ [], (s₂ ∷ [], (s₃ ∷ [], (s₄ ∷ [], (s₅ ∷ [], (s₆ ∷ [], (s₇ ∷ [], (s₈ ∷ [], (sliceVal (b, 0) (length z) ∷ [], (s₉ ∷ [], tt)))))))))))), tt)
 
-  asked : (b ν : ℕ) (δ : GName) (z : List Record) → ent 𝓤 (⋆ 𝓤 H A (‵ (flft κ₀ q₀) ∷ ‵ (flft κ₁ q₁) ∷ ‵ (flft κ₂ q₂) ∷ ‵ (flft κ₃ q₃) ∷ ‵ (flft κ₄ q₄) ∷ ‵ (flft κ₅ q₅) ∷ ‵ (flft κ₆ q₆) ∷ ‵ (flft κ₇ q₇) ∷ ‵ (flft (ν ∷ []) fullShare) ∷ ‵ (flft κ₈ q₈) ∷ ‵ (In κ₀ x₀) ∷ ‵ (In κ₁ x₁) ∷ ‵ (In κ₂ x₂) ∷ ‵ (In κ₃ x₃) ∷ ‵ (In κ₄ x₄) ∷ ‵ (In κ₅ x₅) ∷ ‵ (Lent-u8 κ₆ x₆) ∷ ‵ (In κ₇ x₇) ∷ ‵ (MutSlice (named 8) (ν ∷ []) T.the-row .own (records-at b δ z) (sliceVal (b, 0) (length z) ∷ [])) ∷ ‵ (Lent-u8 κ₈ x₈) ∷ [])) (Judge 𝓤 H A mem run .pre (to-judge b ν δ z))
+  asked : (b ν : ℕ) (δ : GName) (z : List Record) → ent 𝓤 (⋆ 𝓤 H A (‵ (flft κ₀ q₀) ∷ ‵ (flft κ₁ q₁) ∷ ‵ (flft κ₂ q₂) ∷ ‵ (flft κ₃ q₃) ∷ ‵ (flft κ₄ q₄) ∷ ‵ (flft κ₅ q₅) ∷ ‵ (flft κ₆ q₆) ∷ ‵ (flft κ₇ q₇) ∷ ‵ (flft κ₈ q₈) ∷ ‵ (flft (ν ∷ []) fullShare) ∷ ‵ (flft κ₉ q₉) ∷ ‵ (In κ₀ x₀) ∷ ‵ (In κ₁ x₁) ∷ ‵ (In κ₂ x₂) ∷ ‵ (In κ₃ x₃) ∷ ‵ (In κ₄ x₄) ∷ ‵ (In κ₅ x₅) ∷ ‵ (Lent-u8 κ₆ x₆) ∷ ‵ (In κ₇ x₇) ∷ ‵ (In κ₈ x₈) ∷ ‵ (MutSlice (named 9) (ν ∷ []) T.the-row .own (records-at b δ z) (sliceVal (b, 0) (length z) ∷ [])) ∷ ‵ (Lent-u8 κ₉ x₉) ∷ [])) (Judge 𝓤 H A mem run .pre (to-judge b ν δ z))
   asked b ν δ z =
-      qed W (‵ (flft κ₀ q₀) ∷ ‵ (flft κ₁ q₁) ∷ ‵ (flft κ₂ q₂) ∷ ‵ (flft κ₃ q₃) ∷ ‵ (flft κ₄ q₄) ∷ ‵ (flft κ₅ q₅) ∷ ‵ (flft κ₆ q₆) ∷ ‵ (flft κ₇ q₇) ∷ ‵ (flft (ν ∷ []) fullShare) ∷ ‵ (flft κ₈ q₈) ∷ ‵ (In κ₀ x₀) ∷ ‵ (In κ₁ x₁) ∷ ‵ (In κ₂ x₂) ∷ ‵ (In κ₃ x₃) ∷ ‵ (In κ₄ x₄) ∷ ‵ (In κ₅ x₅) ∷ ‵ (Lent-u8 κ₆ x₆) ∷ ‵ (In κ₇ x₇) ∷ ‵ (MutSlice (named 8) (ν ∷ []) T.the-row .own (records-at b δ z) (sliceVal (b, 0) (length z) ∷ [])) ∷ ‵ (Lent-u8 κ₈ x₈) ∷ []) ∵
+      qed W (‵ (flft κ₀ q₀) ∷ ‵ (flft κ₁ q₁) ∷ ‵ (flft κ₂ q₂) ∷ ‵ (flft κ₃ q₃) ∷ ‵ (flft κ₄ q₄) ∷ ‵ (flft κ₅ q₅) ∷ ‵ (flft κ₆ q₆) ∷ ‵ (flft κ₇ q₇) ∷ ‵ (flft κ₈ q₈) ∷ ‵ (flft (ν ∷ []) fullShare) ∷ ‵ (flft κ₉ q₉) ∷ ‵ (In κ₀ x₀) ∷ ‵ (In κ₁ x₁) ∷ ‵ (In κ₂ x₂) ∷ ‵ (In κ₃ x₃) ∷ ‵ (In κ₄ x₄) ∷ ‵ (In κ₅ x₅) ∷ ‵ (Lent-u8 κ₆ x₆) ∷ ‵ (In κ₇ x₇) ∷ ‵ (In κ₈ x₈) ∷ ‵ (MutSlice (named 9) (ν ∷ []) T.the-row .own (records-at b δ z) (sliceVal (b, 0) (length z) ∷ [])) ∷ ‵ (Lent-u8 κ₉ x₉) ∷ []) ∵
       nothing ! $
+      move ! (11 ∷ 0 ∷ []) $
+      join ! $
       move ! (10 ∷ 0 ∷ []) $
       join ! $
       move ! (9 ∷ 0 ∷ []) $
@@ -204,6 +209,8 @@ module _ {M : Type 1} (𝓤 : URA M) (H : Heap 𝓤) (A : Atoms 𝓤) (W : Given
       move ! (1 ∷ 0 ∷ []) $
       join ! $
       nothing ! $
+      move ! (12 ∷ 0 ∷ []) $
+      fjoin ! $
       move ! (11 ∷ 0 ∷ []) $
       fjoin ! $
       move ! (10 ∷ 0 ∷ []) $
@@ -229,12 +236,14 @@ module _ {M : Type 1} (𝓤 : URA M) (H : Heap 𝓤) (A : Atoms 𝓤) (W : Given
       frame ! $
       done !
 
-  exits : (r : Answer) (w : Val) → Is TA.the-row r (w ∷ []) → (ms os : List ℕ) → length ms ≡ length (x₆ .now) → length os ≡ length (x₈ .now) → JudgedLent (call-of recordsLent) r ms os
-      → ent 𝓤 (⋆ 𝓤 H A (‵ (flft κ₀ q₀) ∷ ‵ (flft κ₁ q₁) ∷ ‵ (flft κ₂ q₂) ∷ ‵ (flft κ₃ q₃) ∷ ‵ (flft κ₄ q₄) ∷ ‵ (flft κ₅ q₅) ∷ ‵ (flft κ₆ q₆) ∷ ‵ (flft κ₇ q₇) ∷ ‵ (flft κ₈ q₈) ∷ ‵ (In κ₀ x₀) ∷ ‵ (In κ₁ x₁) ∷ ‵ (In κ₂ x₂) ∷ ‵ (In κ₃ x₃) ∷ ‵ (In κ₄ x₄) ∷ ‵ (In κ₅ x₅) ∷ ‵ (finally u8 (x₆ .name) ms) ∷ ‵ (In κ₇ x₇) ∷ ‵ (finally u8 (x₈ .name) os) ∷ [])) (Post w)
+  exits : (r : Answer) (w : Val) → Is TA.the-row r (w ∷ []) → (ms os : List ℕ) → length ms ≡ length (x₆ .now) → length os ≡ length (x₉ .now) → JudgedLent (call-of recordsLent) r ms os
+      → ent 𝓤 (⋆ 𝓤 H A (‵ (flft κ₀ q₀) ∷ ‵ (flft κ₁ q₁) ∷ ‵ (flft κ₂ q₂) ∷ ‵ (flft κ₃ q₃) ∷ ‵ (flft κ₄ q₄) ∷ ‵ (flft κ₅ q₅) ∷ ‵ (flft κ₆ q₆) ∷ ‵ (flft κ₇ q₇) ∷ ‵ (flft κ₈ q₈) ∷ ‵ (flft κ₉ q₉) ∷ ‵ (In κ₀ x₀) ∷ ‵ (In κ₁ x₁) ∷ ‵ (In κ₂ x₂) ∷ ‵ (In κ₃ x₃) ∷ ‵ (In κ₄ x₄) ∷ ‵ (In κ₅ x₅) ∷ ‵ (finally u8 (x₆ .name) ms) ∷ ‵ (In κ₇ x₇) ∷ ‵ (In κ₈ x₈) ∷ ‵ (finally u8 (x₉ .name) os) ∷ [])) (Post w)
   exits r w is ms os lm lo said =
-      qed W (‵ (flft κ₀ q₀) ∷ ‵ (flft κ₁ q₁) ∷ ‵ (flft κ₂ q₂) ∷ ‵ (flft κ₃ q₃) ∷ ‵ (flft κ₄ q₄) ∷ ‵ (flft κ₅ q₅) ∷ ‵ (flft κ₆ q₆) ∷ ‵ (flft κ₇ q₇) ∷ ‵ (flft κ₈ q₈) ∷ ‵ (In κ₀ x₀) ∷ ‵ (In κ₁ x₁) ∷ ‵ (In κ₂ x₂) ∷ ‵ (In κ₃ x₃) ∷ ‵ (In κ₄ x₄) ∷ ‵ (In κ₅ x₅) ∷ ‵ (finally u8 (x₆ .name) ms) ∷ ‵ (In κ₇ x₇) ∷ ‵ (finally u8 (x₈ .name) os) ∷ []) ∵
-      suffices ! _ (ends-at 𝓤 H A here.ended stayed (here.clauses 𝓤 H A mem run) W (((κ₀, (κ₁, (κ₂, (κ₃, (κ₄, (κ₅, (κ₆, (κ₇, (κ₈, tt))))))))), (q₀, (q₁, (q₂, (q₃, (q₄, (q₅, (q₆, (q₇, (q₈, tt))))))))), tt, a, vals), tt) w r (tt, (tt, (tt, (tt, (tt, (tt, (ms, (tt, (os, tt))))))))) (tt, (tt, (tt, (tt, (tt, (tt, (lm, (tt, (lo, tt)))))))))) $ says ! said $
+      qed W (‵ (flft κ₀ q₀) ∷ ‵ (flft κ₁ q₁) ∷ ‵ (flft κ₂ q₂) ∷ ‵ (flft κ₃ q₃) ∷ ‵ (flft κ₄ q₄) ∷ ‵ (flft κ₅ q₅) ∷ ‵ (flft κ₆ q₆) ∷ ‵ (flft κ₇ q₇) ∷ ‵ (flft κ₈ q₈) ∷ ‵ (flft κ₉ q₉) ∷ ‵ (In κ₀ x₀) ∷ ‵ (In κ₁ x₁) ∷ ‵ (In κ₂ x₂) ∷ ‵ (In κ₃ x₃) ∷ ‵ (In κ₄ x₄) ∷ ‵ (In κ₅ x₅) ∷ ‵ (finally u8 (x₆ .name) ms) ∷ ‵ (In κ₇ x₇) ∷ ‵ (In κ₈ x₈) ∷ ‵ (finally u8 (x₉ .name) os) ∷ []) ∵
+      suffices ! _ (ends-at 𝓤 H A here.ended stayed (here.clauses 𝓤 H A mem run) W (((κ₀, (κ₁, (κ₂, (κ₃, (κ₄, (κ₅, (κ₆, (κ₇, (κ₈, (κ₉, tt)))))))))), (q₀, (q₁, (q₂, (q₃, (q₄, (q₅, (q₆, (q₇, (q₈, (q₉, tt)))))))))), tt, a, vals), tt) w r (tt, (tt, (tt, (tt, (tt, (tt, (ms, (tt, (tt, (os, tt)))))))))) (tt, (tt, (tt, (tt, (tt, (tt, (lm, (tt, (tt, (lo, tt))))))))))) $ says ! said $
       nothing ! $
+      move ! (10 ∷ 0 ∷ []) $
+      join ! $
       move ! (9 ∷ 0 ∷ []) $
       join ! $
       move ! (8 ∷ 0 ∷ []) $
@@ -255,6 +264,8 @@ module _ {M : Type 1} (𝓤 : URA M) (H : Heap 𝓤) (A : Atoms 𝓤) (W : Given
       join ! $
       frame ! $
       nothing ! $
+      move ! (10 ∷ 0 ∷ []) $
+      fjoin ! $
       move ! (9 ∷ 0 ∷ []) $
       fjoin ! $
       move ! (8 ∷ 0 ∷ []) $
@@ -278,71 +289,74 @@ module _ {M : Type 1} (𝓤 : URA M) (H : Heap 𝓤) (A : Atoms 𝓤) (W : Given
 
   module _ (C : Calls 𝓤 H) (Λ : Loops 𝓤 H) (fm : FmC 𝓤 H (W .laws) C) (known-blank : Triple 𝓤 (C #blank) (Blank 𝓤 H A mem run)) (known-judge : Triple 𝓤 (C #judge) (Judge 𝓤 H A mem run)) where
     -- the walk, in stretches: each is checked as one declaration, and there is a limit of steps for one
-    module _ (l₀ l₁ l₂ l₃ l₄ l₅ l₆ l₇ l₈ l₉ l₁₀ l₁₁ l₁₂ l₁₃ l₁₄ l₁₅ l₁₆ l₁₇ : ℕ) where
+    module _ (l₀ l₁ l₂ l₃ l₄ l₅ l₆ l₇ l₈ l₉ l₁₀ l₁₁ l₁₂ l₁₃ l₁₄ l₁₅ l₁₆ l₁₇ l₁₈ : ℕ) where
       abbrev En : Env 𝓤 H
-      En = (TA′.mir, l₀) ∷ ((shared 0), l₁) ∷ ((shared 1), l₂) ∷ ((shared 2), l₃) ∷ ((shared 3), l₄) ∷ ((shared 4), l₅) ∷ ((shared 5), l₆) ∷ ((lent 6), l₇) ∷ ((shared 7), l₈) ∷ ((lent 8), l₉) ∷ (T′.mir, l₁₀) ∷ (table, l₁₁) ∷ (byte-ref, l₁₂) ∷ (byte-slice, l₁₃) ∷ (table-ref, l₁₄) ∷ (rec-slice, l₁₅) ∷ (byte-ref, l₁₆) ∷ (byte-slice, l₁₇) ∷ []
+      En = (TA′.mir, l₀) ∷ ((shared 0), l₁) ∷ ((shared 1), l₂) ∷ ((shared 2), l₃) ∷ ((shared 3), l₄) ∷ ((shared 4), l₅) ∷ ((shared 5), l₆) ∷ ((lent 6), l₇) ∷ ((shared 7), l₈) ∷ ((shared 8), l₉) ∷ ((lent 9), l₁₀) ∷ (T′.mir, l₁₁) ∷ (table, l₁₂) ∷ (byte-ref, l₁₃) ∷ (byte-slice, l₁₄) ∷ (table-ref, l₁₅) ∷ (rec-slice, l₁₆) ∷ (byte-ref, l₁₇) ∷ (byte-slice, l₁₈) ∷ []
 
-      ends : (r : Answer) (w : Val) → Is TA.the-row r (w ∷ []) → (ms os : List ℕ) (rs : List Record) → length ms ≡ length (x₆ .now) → length os ≡ length (x₈ .now) → JudgedLent (call-of recordsLent) r ms os
-          → Sq W (‵ (flft κ₀ q₀) ∷ ‵ (flft κ₁ q₁) ∷ ‵ (flft κ₂ q₂) ∷ ‵ (flft κ₃ q₃) ∷ ‵ (flft κ₄ q₄) ∷ ‵ (flft κ₅ q₅) ∷ ‵ (flft κ₆ q₆) ∷ ‵ (flft κ₇ q₇) ∷ ‵ (flft κ₈ q₈) ∷ ‵ (In κ₀ x₀) ∷ ‵ (In κ₁ x₁) ∷ ‵ (In κ₂ x₂) ∷ ‵ (In κ₃ x₃) ∷ ‵ (In κ₄ x₄) ∷ ‵ (In κ₅ x₅) ∷ ‵ (In κ₇ x₇) ∷ ‵ (finally u8 (x₆ .name) ms) ∷ ‵ (finally u8 (x₈ .name) os) ∷ ‵ (Lies T.the-row 128 rs l₁₁) ∷ ‵ (froom TA′.mir l₀ 0) ∷ ‵ (froom (shared 0) l₁ 0) ∷ ‵ (froom (shared 1) l₂ 0) ∷ ‵ (froom (shared 2) l₃ 0) ∷ ‵ (froom (shared 3) l₄ 0) ∷ ‵ (froom (shared 4) l₅ 0) ∷ ‵ (froom (shared 5) l₆ 0) ∷ ‵ (froom (lent 6) l₇ 0) ∷ ‵ (froom (shared 7) l₈ 0) ∷ ‵ (froom (lent 8) l₉ 0) ∷ ‵ (froom T′.mir l₁₀ 0) ∷ ‵ (froom byte-ref l₁₂ 0) ∷ ‵ (froom byte-slice l₁₃ 0) ∷ ‵ (froom table-ref l₁₄ 0) ∷ ‵ (froom rec-slice l₁₅ 0) ∷ ‵ (froom byte-ref l₁₆ 0) ∷ ‵ (froom byte-slice l₁₇ 0) ∷ ‵ (fdies TA′.mir l₀) ∷ ‵ (fdies (shared 0) l₁) ∷ ‵ (fdies (shared 1) l₂) ∷ ‵ (fdies (shared 2) l₃) ∷ ‵ (fdies (shared 3) l₄) ∷ ‵ (fdies (shared 4) l₅) ∷ ‵ (fdies (shared 5) l₆) ∷ ‵ (fdies (lent 6) l₇) ∷ ‵ (fdies (shared 7) l₈) ∷ ‵ (fdies (lent 8) l₉) ∷ ‵ (fdies T′.mir l₁₀) ∷ ‵ (fdies table l₁₁) ∷ ‵ (fdies byte-ref l₁₂) ∷ ‵ (fdies byte-slice l₁₃) ∷ ‵ (fdies table-ref l₁₄) ∷ ‵ (fdies rec-slice l₁₅) ∷ ‵ (fdies byte-ref l₁₆) ∷ ‵ (fdies byte-slice l₁₇) ∷ [])
+      ends : (r : Answer) (w : Val) → Is TA.the-row r (w ∷ []) → (ms os : List ℕ) (rs : List Record) → length ms ≡ length (x₆ .now) → length os ≡ length (x₉ .now) → JudgedLent (call-of recordsLent) r ms os
+          → Sq W (‵ (flft κ₀ q₀) ∷ ‵ (flft κ₁ q₁) ∷ ‵ (flft κ₂ q₂) ∷ ‵ (flft κ₃ q₃) ∷ ‵ (flft κ₄ q₄) ∷ ‵ (flft κ₅ q₅) ∷ ‵ (flft κ₆ q₆) ∷ ‵ (flft κ₇ q₇) ∷ ‵ (flft κ₈ q₈) ∷ ‵ (flft κ₉ q₉) ∷ ‵ (In κ₀ x₀) ∷ ‵ (In κ₁ x₁) ∷ ‵ (In κ₂ x₂) ∷ ‵ (In κ₃ x₃) ∷ ‵ (In κ₄ x₄) ∷ ‵ (In κ₅ x₅) ∷ ‵ (In κ₇ x₇) ∷ ‵ (In κ₈ x₈) ∷ ‵ (finally u8 (x₆ .name) ms) ∷ ‵ (finally u8 (x₉ .name) os) ∷ ‵ (Lies T.the-row 128 rs l₁₂) ∷ ‵ (froom TA′.mir l₀ 0) ∷ ‵ (froom (shared 0) l₁ 0) ∷ ‵ (froom (shared 1) l₂ 0) ∷ ‵ (froom (shared 2) l₃ 0) ∷ ‵ (froom (shared 3) l₄ 0) ∷ ‵ (froom (shared 4) l₅ 0) ∷ ‵ (froom (shared 5) l₆ 0) ∷ ‵ (froom (lent 6) l₇ 0) ∷ ‵ (froom (shared 7) l₈ 0) ∷ ‵ (froom (shared 8) l₉ 0) ∷ ‵ (froom (lent 9) l₁₀ 0) ∷ ‵ (froom T′.mir l₁₁ 0) ∷ ‵ (froom byte-ref l₁₃ 0) ∷ ‵ (froom byte-slice l₁₄ 0) ∷ ‵ (froom table-ref l₁₅ 0) ∷ ‵ (froom rec-slice l₁₆ 0) ∷ ‵ (froom byte-ref l₁₇ 0) ∷ ‵ (froom byte-slice l₁₈ 0) ∷ ‵ (fdies TA′.mir l₀) ∷ ‵ (fdies (shared 0) l₁) ∷ ‵ (fdies (shared 1) l₂) ∷ ‵ (fdies (shared 2) l₃) ∷ ‵ (fdies (shared 3) l₄) ∷ ‵ (fdies (shared 4) l₅) ∷ ‵ (fdies (shared 5) l₆) ∷ ‵ (fdies (lent 6) l₇) ∷ ‵ (fdies (shared 7) l₈) ∷ ‵ (fdies (shared 8) l₉) ∷ ‵ (fdies (lent 9) l₁₀) ∷ ‵ (fdies T′.mir l₁₁) ∷ ‵ (fdies table l₁₂) ∷ ‵ (fdies byte-ref l₁₃) ∷ ‵ (fdies byte-slice l₁₄) ∷ ‵ (fdies table-ref l₁₅) ∷ ‵ (fdies rec-slice l₁₆) ∷ ‵ (fdies byte-ref l₁₇) ∷ ‵ (fdies byte-slice l₁₈) ∷ [])
           (frees En (prop (Post w)))
       ends r w is ms os rs lm lo said =
-          move ! (18 ∷ []) $
-          use1 W (‵ (froom table l₁₁ 0)) (cleared 𝓤 H A W T.the-row 128 l₁₁ rs) $
-          move ! (19 ∷ 36 ∷ 20 ∷ 37 ∷ 21 ∷ 38 ∷ 22 ∷ 39 ∷ 23 ∷ 40 ∷ 24 ∷ 41 ∷ 25 ∷ 42 ∷ 26 ∷ 43 ∷ 27 ∷ 44 ∷ 28 ∷ 45 ∷ 29 ∷ 46 ∷ 0 ∷ 47 ∷ 30 ∷ 48 ∷ 31 ∷ 49 ∷ 32 ∷ 50 ∷ 33 ∷ 51 ∷ 34 ∷ 52 ∷ 35 ∷ 53 ∷ []) $
-          free1 ! $ free1 ! $ free1 ! $ free1 ! $ free1 ! $ free1 ! $ free1 ! $ free1 ! $ free1 ! $ free1 ! $ free1 ! $ free1 ! $ free1 ! $ free1 ! $ free1 ! $ free1 ! $ free1 ! $ free1 ! $ free0 ! $
-          move ! (0 ∷ 1 ∷ 2 ∷ 3 ∷ 4 ∷ 5 ∷ 6 ∷ 7 ∷ 8 ∷ 9 ∷ 10 ∷ 11 ∷ 12 ∷ 13 ∷ 14 ∷ 16 ∷ 15 ∷ 17 ∷ []) $
+          move ! (20 ∷ []) $
+          use1 W (‵ (froom table l₁₂ 0)) (cleared 𝓤 H A W T.the-row 128 l₁₂ rs) $
+          move ! (21 ∷ 39 ∷ 22 ∷ 40 ∷ 23 ∷ 41 ∷ 24 ∷ 42 ∷ 25 ∷ 43 ∷ 26 ∷ 44 ∷ 27 ∷ 45 ∷ 28 ∷ 46 ∷ 29 ∷ 47 ∷ 30 ∷ 48 ∷ 31 ∷ 49 ∷ 32 ∷ 50 ∷ 0 ∷ 51 ∷ 33 ∷ 52 ∷ 34 ∷ 53 ∷ 35 ∷ 54 ∷ 36 ∷ 55 ∷ 37 ∷ 56 ∷ 38 ∷ 57 ∷ []) $
+          free1 ! $ free1 ! $ free1 ! $ free1 ! $ free1 ! $ free1 ! $ free1 ! $ free1 ! $ free1 ! $ free1 ! $ free1 ! $ free1 ! $ free1 ! $ free1 ! $ free1 ! $ free1 ! $ free1 ! $ free1 ! $ free1 ! $ free0 ! $
+          move ! (0 ∷ 1 ∷ 2 ∷ 3 ∷ 4 ∷ 5 ∷ 6 ∷ 7 ∷ 8 ∷ 9 ∷ 10 ∷ 11 ∷ 12 ∷ 13 ∷ 14 ∷ 15 ∷ 18 ∷ 16 ∷ 17 ∷ 19 ∷ []) $
           by ! (exits r w is ms os lm lo said)
 
-      call-judge : Room u8 (length (x₆ .now)) → Room u8 (length (x₈ .now)) → (z : List Record) → length z ≡ 128
-          → Sq W (‵ (flft κ₀ q₀) ∷ ‵ (flft κ₁ q₁) ∷ ‵ (flft κ₂ q₂) ∷ ‵ (flft κ₃ q₃) ∷ ‵ (flft κ₄ q₄) ∷ ‵ (flft κ₅ q₅) ∷ ‵ (flft κ₆ q₆) ∷ ‵ (flft κ₇ q₇) ∷ ‵ (flft κ₈ q₈) ∷ ‵ (In κ₀ x₀) ∷ ‵ (In κ₁ x₁) ∷ ‵ (In κ₂ x₂) ∷ ‵ (In κ₃ x₃) ∷ ‵ (In κ₄ x₄) ∷ ‵ (In κ₅ x₅) ∷ ‵ (In κ₇ x₇) ∷ ‵ (Lent-u8 κ₆ x₆) ∷ ‵ (Lent-u8 κ₈ x₈) ∷ ‵ (Lies T.the-row 128 z l₁₁) ∷ ‵ (froom TA′.mir l₀ 0) ∷ ‵ (fat fullShare (shared 0) l₁ 0 s₀) ∷ ‵ (fat fullShare (shared 1) l₂ 0 s₁) ∷ ‵ (fat fullShare (shared 2) l₃ 0 s₂) ∷ ‵ (fat fullShare (shared 3) l₄ 0 s₃) ∷ ‵ (fat fullShare (shared 4) l₅ 0 s₄) ∷ ‵ (fat fullShare (shared 5) l₆ 0 s₅) ∷ ‵ (fat fullShare (lent 6) l₇ 0 s₆) ∷ ‵ (fat fullShare (shared 7) l₈ 0 s₇) ∷ ‵ (fat fullShare (lent 8) l₉ 0 s₈) ∷ ‵ (froom T′.mir l₁₀ 0) ∷ ‵ (froom byte-ref l₁₂ 0) ∷ ‵ (froom byte-slice l₁₃ 0) ∷ ‵ (froom table-ref l₁₄ 0) ∷ ‵ (froom rec-slice l₁₅ 0) ∷ ‵ (froom byte-ref l₁₆ 0) ∷ ‵ (froom byte-slice l₁₇ 0) ∷ ‵ (fdies TA′.mir l₀) ∷ ‵ (fdies (shared 0) l₁) ∷ ‵ (fdies (shared 1) l₂) ∷ ‵ (fdies (shared 2) l₃) ∷ ‵ (fdies (shared 3) l₄) ∷ ‵ (fdies (shared 4) l₅) ∷ ‵ (fdies (shared 5) l₆) ∷ ‵ (fdies (lent 6) l₇) ∷ ‵ (fdies (shared 7) l₈) ∷ ‵ (fdies (lent 8) l₉) ∷ ‵ (fdies T′.mir l₁₀) ∷ ‵ (fdies table l₁₁) ∷ ‵ (fdies byte-ref l₁₂) ∷ ‵ (fdies byte-slice l₁₃) ∷ ‵ (fdies table-ref l₁₄) ∷ ‵ (fdies rec-slice l₁₅) ∷ ‵ (fdies byte-ref l₁₆) ∷ ‵ (fdies byte-slice l₁₇) ∷ [])
+      call-judge : Room u8 (length (x₆ .now)) → Room u8 (length (x₉ .now)) → (z : List Record) → length z ≡ 128
+          → Sq W (‵ (flft κ₀ q₀) ∷ ‵ (flft κ₁ q₁) ∷ ‵ (flft κ₂ q₂) ∷ ‵ (flft κ₃ q₃) ∷ ‵ (flft κ₄ q₄) ∷ ‵ (flft κ₅ q₅) ∷ ‵ (flft κ₆ q₆) ∷ ‵ (flft κ₇ q₇) ∷ ‵ (flft κ₈ q₈) ∷ ‵ (flft κ₉ q₉) ∷ ‵ (In κ₀ x₀) ∷ ‵ (In κ₁ x₁) ∷ ‵ (In κ₂ x₂) ∷ ‵ (In κ₃ x₃) ∷ ‵ (In κ₄ x₄) ∷ ‵ (In κ₅ x₅) ∷ ‵ (In κ₇ x₇) ∷ ‵ (In κ₈ x₈) ∷ ‵ (Lent-u8 κ₆ x₆) ∷ ‵ (Lent-u8 κ₉ x₉) ∷ ‵ (Lies T.the-row 128 z l₁₂) ∷ ‵ (froom TA′.mir l₀ 0) ∷ ‵ (fat fullShare (shared 0) l₁ 0 s₀) ∷ ‵ (fat fullShare (shared 1) l₂ 0 s₁) ∷ ‵ (fat fullShare (shared 2) l₃ 0 s₂) ∷ ‵ (fat fullShare (shared 3) l₄ 0 s₃) ∷ ‵ (fat fullShare (shared 4) l₅ 0 s₄) ∷ ‵ (fat fullShare (shared 5) l₆ 0 s₅) ∷ ‵ (fat fullShare (lent 6) l₇ 0 s₆) ∷ ‵ (fat fullShare (shared 7) l₈ 0 s₇) ∷ ‵ (fat fullShare (shared 8) l₉ 0 s₈) ∷ ‵ (fat fullShare (lent 9) l₁₀ 0 s₉) ∷ ‵ (froom T′.mir l₁₁ 0) ∷ ‵ (froom byte-ref l₁₃ 0) ∷ ‵ (froom byte-slice l₁₄ 0) ∷ ‵ (froom table-ref l₁₅ 0) ∷ ‵ (froom rec-slice l₁₆ 0) ∷ ‵ (froom byte-ref l₁₇ 0) ∷ ‵ (froom byte-slice l₁₈ 0) ∷ ‵ (fdies TA′.mir l₀) ∷ ‵ (fdies (shared 0) l₁) ∷ ‵ (fdies (shared 1) l₂) ∷ ‵ (fdies (shared 2) l₃) ∷ ‵ (fdies (shared 3) l₄) ∷ ‵ (fdies (shared 4) l₅) ∷ ‵ (fdies (shared 5) l₆) ∷ ‵ (fdies (lent 6) l₇) ∷ ‵ (fdies (shared 7) l₈) ∷ ‵ (fdies (shared 8) l₉) ∷ ‵ (fdies (lent 9) l₁₀) ∷ ‵ (fdies T′.mir l₁₁) ∷ ‵ (fdies table l₁₂) ∷ ‵ (fdies byte-ref l₁₃) ∷ ‵ (fdies byte-slice l₁₄) ∷ ‵ (fdies table-ref l₁₅) ∷ ‵ (fdies rec-slice l₁₆) ∷ ‵ (fdies byte-ref l₁₇) ∷ ‵ (fdies byte-slice l₁₈) ∷ [])
           (runs C Λ En mir-of.t-3 (atRet En Post))
-      call-judge g₆ g₈ z lz =
-          assigns ! (addr ! (from ! (fld ! refl (hop ! (look-in ! 26 (sub ! 0 refl (whole !))) (stop !))))) (from ! (stop !)) (init ! 30 refl (tt, tt)) $
-          assigns ! (agg ! (and-then ! (load ! (from ! (stop !)) (look ! 30 refl)) (and-then ! (load ! (from ! (fld ! refl (stop !))) (look-in ! 26 (sub ! 1 refl (whole !)))) (no-more !)))) (from ! (stop !)) (init ! 31 refl (tt, (tt, (record { fits = g₆ .0 }, tt)))) $
-          assigns ! (addr ! (from ! (stop !))) (from ! (stop !)) (init ! 32 refl (tt, tt)) $
-          assigns ! (agg ! (and-then ! (load ! (from ! (stop !)) (look ! 32 refl)) (and-then ! (lit ! tt) (no-more !)))) (from ! (stop !)) (init ! 33 refl (tt, (tt, (record { fits = lit< tt }, tt)))) $
-          rewrite ! 33 (λ (m : ℕ). ‵ (fat fullShare rec-slice l₁₅ 0 (sliceVal (l₁₁, 0) m))) (sym lz) refl $
-          assigns ! (addr ! (from ! (fld ! refl (hop ! (look-in ! 28 (sub ! 0 refl (whole !))) (stop !))))) (from ! (stop !)) (init ! 34 refl (tt, tt)) $
-          assigns ! (agg ! (and-then ! (load ! (from ! (stop !)) (look ! 34 refl)) (and-then ! (load ! (from ! (fld ! refl (stop !))) (look-in ! 28 (sub ! 1 refl (whole !)))) (no-more !)))) (from ! (stop !)) (init ! 35 refl (tt, (tt, (record { fits = g₈ .0 }, tt)))) $
+      call-judge g₆ g₉ z lz =
+          assigns ! (addr ! (from ! (fld ! refl (hop ! (look-in ! 28 (sub ! 0 refl (whole !))) (stop !))))) (from ! (stop !)) (init ! 33 refl (tt, tt)) $
+          assigns ! (agg ! (and-then ! (load ! (from ! (stop !)) (look ! 33 refl)) (and-then ! (load ! (from ! (fld ! refl (stop !))) (look-in ! 28 (sub ! 1 refl (whole !)))) (no-more !)))) (from ! (stop !)) (init ! 34 refl (tt, (tt, (record { fits = g₆ .0 }, tt)))) $
+          assigns ! (addr ! (from ! (stop !))) (from ! (stop !)) (init ! 35 refl (tt, tt)) $
+          assigns ! (agg ! (and-then ! (load ! (from ! (stop !)) (look ! 35 refl)) (and-then ! (lit ! tt) (no-more !)))) (from ! (stop !)) (init ! 36 refl (tt, (tt, (record { fits = lit< tt }, tt)))) $
+          rewrite ! 36 (λ (m : ℕ). ‵ (fat fullShare rec-slice l₁₆ 0 (sliceVal (l₁₂, 0) m))) (sym lz) refl $
+          assigns ! (addr ! (from ! (fld ! refl (hop ! (look-in ! 31 (sub ! 0 refl (whole !))) (stop !))))) (from ! (stop !)) (init ! 37 refl (tt, tt)) $
+          assigns ! (agg ! (and-then ! (load ! (from ! (stop !)) (look ! 37 refl)) (and-then ! (load ! (from ! (fld ! refl (stop !))) (look-in ! 31 (sub ! 1 refl (whole !)))) (no-more !)))) (from ! (stop !)) (init ! 38 refl (tt, (tt, (record { fits = g₉ .0 }, tt)))) $
           lft-new ! tt (λ ν.
-          move ! (19 ∷ []) $
-          use1 W (later (some (λ (δ : GName). ‵ (MutSlice (named 8) (ν ∷ []) T.the-row .own (records-at l₁₁ δ z) (sliceVal (l₁₁, 0) (length z) ∷ [])) ⊛ ‵ (flent (ν ∷ []) (Held T.the-row (length z) l₁₁ 0 δ))))) (lends 𝓤 H A W T.the-row 128 l₁₁ (named 8) (ν ∷ []) z (room-of z lz)) $ await ! tt $
+          move ! (21 ∷ []) $
+          use1 W (later (some (λ (δ : GName). ‵ (MutSlice (named 9) (ν ∷ []) T.the-row .own (records-at l₁₂ δ z) (sliceVal (l₁₂, 0) (length z) ∷ [])) ⊛ ‵ (flent (ν ∷ []) (Held T.the-row (length z) l₁₂ 0 δ))))) (lends 𝓤 H A W T.the-row 128 l₁₂ (named 9) (ν ∷ []) z (room-of z lz)) $ await ! tt $
           pick ! (λ δ.
           split ! $
-          move ! (12 ∷ []) $
+          move ! (13 ∷ []) $
           use1 W (‵ (In κ₀ x₀) ⊛ ‵ (In κ₀ x₀)) (shr-slice-copy 𝓤 H A W (named 0) κ₀ u8 .twice x₀ (s₀ ∷ [])) $
           split ! $
-          move ! (14 ∷ []) $
+          move ! (15 ∷ []) $
           use1 W (‵ (In κ₁ x₁) ⊛ ‵ (In κ₁ x₁)) (shr-slice-copy 𝓤 H A W (named 0) κ₁ u8 .twice x₁ (s₁ ∷ [])) $
           split ! $
-          move ! (16 ∷ []) $
+          move ! (17 ∷ []) $
           use1 W (‵ (In κ₂ x₂) ⊛ ‵ (In κ₂ x₂)) (shr-slice-copy 𝓤 H A W (named 0) κ₂ u8 .twice x₂ (s₂ ∷ [])) $
           split ! $
-          move ! (18 ∷ []) $
+          move ! (19 ∷ []) $
           use1 W (‵ (In κ₃ x₃) ⊛ ‵ (In κ₃ x₃)) (shr-slice-copy 𝓤 H A W (named 0) κ₃ u8 .twice x₃ (s₃ ∷ [])) $
           split ! $
-          move ! (20 ∷ []) $
+          move ! (21 ∷ []) $
           use1 W (‵ (In κ₄ x₄) ⊛ ‵ (In κ₄ x₄)) (shr-slice-copy 𝓤 H A W (named 0) κ₄ u8 .twice x₄ (s₄ ∷ [])) $
           split ! $
-          move ! (22 ∷ []) $
+          move ! (23 ∷ []) $
           use1 W (‵ (In κ₅ x₅) ⊛ ‵ (In κ₅ x₅)) (shr-slice-copy 𝓤 H A W (named 0) κ₅ u8 .twice x₅ (s₅ ∷ [])) $
           split ! $
-          move ! (24 ∷ []) $
+          move ! (25 ∷ []) $
           use1 W (‵ (In κ₇ x₇) ⊛ ‵ (In κ₇ x₇)) (shr-slice-copy 𝓤 H A W (named 0) κ₇ u8 .twice x₇ (s₇ ∷ [])) $
           split ! $
-          move ! (17 ∷ 18 ∷ 19 ∷ 20 ∷ 21 ∷ 22 ∷ 23 ∷ 24 ∷ 16 ∷ 25 ∷ 12 ∷ 10 ∷ 8 ∷ 6 ∷ 4 ∷ 2 ∷ 26 ∷ 0 ∷ 14 ∷ 27 ∷ []) $
-          group ! 20 $
-          use1 W (raw (Judge 𝓤 H A mem run .pre (to-judge l₁₁ ν δ z))) (asked l₁₁ ν δ z) $
-          calls-at ! fm (Judge 𝓤 H A mem run) known-judge (to-judge l₁₁ ν δ z) (and-then ! (load ! (from ! (stop !)) (look ! 10 refl)) (and-then ! (load ! (from ! (stop !)) (look ! 11 refl)) (and-then ! (load ! (from ! (stop !)) (look ! 12 refl)) (and-then ! (load ! (from ! (stop !)) (look ! 13 refl)) (and-then ! (load ! (from ! (stop !)) (look ! 14 refl)) (and-then ! (load ! (from ! (stop !)) (look ! 15 refl)) (and-then ! (load ! (from ! (stop !)) (look ! 21 refl)) (and-then ! (load ! (from ! (stop !)) (look ! 17 refl)) (and-then ! (load ! (from ! (stop !)) (look ! 23 refl)) (and-then ! (load ! (from ! (stop !)) (look ! 25 refl)) (no-more !))))))))))) (λ w.
-          use1 W (later (some (λ (r : Answer). ((‵ (flft κ₀ q₀) ⊛ ‵ (flft κ₁ q₁) ⊛ ‵ (flft κ₂ q₂) ⊛ ‵ (flft κ₃ q₃) ⊛ ‵ (flft κ₄ q₄) ⊛ ‵ (flft κ₅ q₅) ⊛ ‵ (flft κ₆ q₆) ⊛ ‵ (flft κ₇ q₇) ⊛ ‵ (flft (ν ∷ []) fullShare) ⊛ ‵ (flft κ₈ q₈) ⊛ ‵ ftrue) ⊛ ‵ (TA.the-row .own r (w ∷ []))) ⊛ raw (ensured 𝓤 H A judge.ended (judge.clauses 𝓤 H A mem run) (judge-lfts ν) (judge-args l₁₁ δ z) tt r)))) (id⊢ 𝓤 _) $ await ! tt $
+          move ! (27 ∷ []) $
+          use1 W (‵ (In κ₈ x₈) ⊛ ‵ (In κ₈ x₈)) (shr-slice-copy 𝓤 H A W (named 0) κ₈ u8 .twice x₈ (s₈ ∷ [])) $
+          split ! $
+          move ! (19 ∷ 20 ∷ 21 ∷ 22 ∷ 23 ∷ 24 ∷ 25 ∷ 26 ∷ 27 ∷ 18 ∷ 28 ∷ 14 ∷ 12 ∷ 10 ∷ 8 ∷ 6 ∷ 4 ∷ 29 ∷ 2 ∷ 0 ∷ 16 ∷ 30 ∷ []) $
+          group ! 22 $
+          use1 W (raw (Judge 𝓤 H A mem run .pre (to-judge l₁₂ ν δ z))) (asked l₁₂ ν δ z) $
+          calls-at ! fm (Judge 𝓤 H A mem run) known-judge (to-judge l₁₂ ν δ z) (and-then ! (load ! (from ! (stop !)) (look ! 11 refl)) (and-then ! (load ! (from ! (stop !)) (look ! 12 refl)) (and-then ! (load ! (from ! (stop !)) (look ! 13 refl)) (and-then ! (load ! (from ! (stop !)) (look ! 14 refl)) (and-then ! (load ! (from ! (stop !)) (look ! 15 refl)) (and-then ! (load ! (from ! (stop !)) (look ! 16 refl)) (and-then ! (load ! (from ! (stop !)) (look ! 23 refl)) (and-then ! (load ! (from ! (stop !)) (look ! 18 refl)) (and-then ! (load ! (from ! (stop !)) (look ! 19 refl)) (and-then ! (load ! (from ! (stop !)) (look ! 25 refl)) (and-then ! (load ! (from ! (stop !)) (look ! 27 refl)) (no-more !)))))))))))) (λ w.
+          use1 W (later (some (λ (r : Answer). ((‵ (flft κ₀ q₀) ⊛ ‵ (flft κ₁ q₁) ⊛ ‵ (flft κ₂ q₂) ⊛ ‵ (flft κ₃ q₃) ⊛ ‵ (flft κ₄ q₄) ⊛ ‵ (flft κ₅ q₅) ⊛ ‵ (flft κ₆ q₆) ⊛ ‵ (flft κ₇ q₇) ⊛ ‵ (flft κ₈ q₈) ⊛ ‵ (flft (ν ∷ []) fullShare) ⊛ ‵ (flft κ₉ q₉) ⊛ ‵ ftrue) ⊛ ‵ (TA.the-row .own r (w ∷ []))) ⊛ raw (ensured 𝓤 H A judge.ended (judge.clauses 𝓤 H A mem run) (judge-lfts ν) (judge-args l₁₂ δ z) tt r)))) (id⊢ 𝓤 _) $ await ! tt $
           pick ! (λ r.
           split ! $
           move ! (1 ∷ []) $
-          use1 W (some (λ (zs : Unit {0} × (Unit {0} × (Unit {0} × (Unit {0} × (Unit {0} × (Unit {0} × (List ℕ × (Unit {0} × (List Record × (List ℕ × Unit {0})))))))))). ‵ (lasts judge.ended (judge-lfts ν) (judge-args l₁₁ δ z) zs) ⊛ raw (fact 𝓤 (Judged (call-of (length z)) z r (zs .1 .1 .1 .1 .1 .1 .0) (zs .1 .1 .1 .1 .1 .1 .1 .1 .0) (zs .1 .1 .1 .1 .1 .1 .1 .1 .1 .0))))) (id⊢ 𝓤 _) $
+          use1 W (some (λ (zs : Unit {0} × (Unit {0} × (Unit {0} × (Unit {0} × (Unit {0} × (Unit {0} × (List ℕ × (Unit {0} × (Unit {0} × (List Record × (List ℕ × Unit {0}))))))))))). ‵ (lasts judge.ended (judge-lfts ν) (judge-args l₁₂ δ z) zs) ⊛ raw (fact 𝓤 (Judged (call-of (length z)) z r (zs .1 .1 .1 .1 .1 .1 .0) (zs .1 .1 .1 .1 .1 .1 .1 .1 .1 .0) (zs .1 .1 .1 .1 .1 .1 .1 .1 .1 .1 .0))))) (id⊢ 𝓤 _) $
           pick ! (λ zs.
           split ! $
           move ! (1 ∷ []) $
-          heard ! (Judged (call-of (length z)) z r (zs .1 .1 .1 .1 .1 .1 .0) (zs .1 .1 .1 .1 .1 .1 .1 .1 .0) (zs .1 .1 .1 .1 .1 .1 .1 .1 .1 .0)) (λ e.
+          heard ! (Judged (call-of (length z)) z r (zs .1 .1 .1 .1 .1 .1 .0) (zs .1 .1 .1 .1 .1 .1 .1 .1 .1 .0) (zs .1 .1 .1 .1 .1 .1 .1 .1 .1 .1 .0)) (λ e.
           fsplit ! $
           drop ! $
           fsplit ! $
@@ -363,6 +377,8 @@ module _ {M : Type 1} (𝓤 : URA M) (H : Heap 𝓤) (A : Atoms 𝓤) (W : Given
           fsplit ! $
           drop ! $
           fsplit ! $
+          drop ! $
+          fsplit ! $
           fsplit ! $
           move ! (1 ∷ []) $
           feqL ! (λ lr.
@@ -377,7 +393,9 @@ module _ {M : Type 1} (𝓤 : URA M) (H : Heap 𝓤) (A : Atoms 𝓤) (W : Given
           split ! $
           move ! (1 ∷ []) $
           peeks ! TA.the-row (Is TA.the-row) (shown-by 𝓤 H A TA.the-row) r (w ∷ []) (λ is.
-          land ! (from ! (stop !)) (init ! 13 refl (EL.lawful TA.the-type TA′.the-laws 𝓤 H A W tt .typed r _ is .0)) $
+          land ! (from ! (stop !)) (init ! 14 refl (EL.lawful TA.the-type TA′.the-laws 𝓤 H A W tt .typed r _ is .0)) $
+          move ! (1 ∷ []) $
+          split ! $
           move ! (1 ∷ []) $
           split ! $
           move ! (1 ∷ []) $
@@ -400,23 +418,25 @@ module _ {M : Type 1} (𝓤 : URA M) (H : Heap 𝓤) (A : Atoms 𝓤) (W : Given
           split ! $
           move ! (1 ∷ []) $
           drop ! $
-          move ! (10 ∷ []) $
+          move ! (11 ∷ []) $
           drop ! $
           move ! (1 ∷ []) $
           lft-end ! tt $
-          move ! (0 ∷ 20 ∷ 11 ∷ []) $
-          use3 W (later (‵ (Lies T.the-row 128 (zs .1 .1 .1 .1 .1 .1 .1 .1 .0) l₁₁))) (back 𝓤 H A W T.the-row 128 l₁₁ (ν ∷ []) δ z (zs .1 .1 .1 .1 .1 .1 .1 .1 .0) lz) $ await ! tt $
-          returns ! (look ! 19 refl) $
-          forget ! 19 refl $ forget ! 20 refl $ forget ! 21 refl $ forget ! 22 refl $ forget ! 23 refl $ forget ! 24 refl $ forget ! 25 refl $ forget ! 26 refl $ forget ! 27 refl $ forget ! 28 refl $ forget ! 30 refl $ forget ! 31 refl $ forget ! 32 refl $ forget ! 33 refl $ forget ! 34 refl $ forget ! 35 refl $
-          keep ! (9 ∷ 8 ∷ 7 ∷ 6 ∷ 5 ∷ 4 ∷ 3 ∷ 2 ∷ 1 ∷ 18 ∷ 17 ∷ 16 ∷ 15 ∷ 14 ∷ 13 ∷ 12 ∷ 11 ∷ 10 ∷ 0 ∷ 19 ∷ 20 ∷ 21 ∷ 22 ∷ 23 ∷ 24 ∷ 25 ∷ 26 ∷ 27 ∷ 28 ∷ 29 ∷ 30 ∷ 31 ∷ 32 ∷ 33 ∷ 34 ∷ 35 ∷ 36 ∷ 37 ∷ 38 ∷ 39 ∷ 40 ∷ 41 ∷ 42 ∷ 43 ∷ 44 ∷ 45 ∷ 46 ∷ 47 ∷ 48 ∷ 49 ∷ 50 ∷ 51 ∷ 52 ∷ 53 ∷ []) $
-          ends r w is (zs .1 .1 .1 .1 .1 .1 .0) (zs .1 .1 .1 .1 .1 .1 .1 .1 .1 .0) (zs .1 .1 .1 .1 .1 .1 .1 .1 .0) lm lo (lent-from-judged _ _ _ _ _ _ _ _ _ _ lz _ _ _ _ _ e)))))))))))
+          move ! (0 ∷ 22 ∷ 12 ∷ []) $
+          use3 W (later (‵ (Lies T.the-row 128 (zs .1 .1 .1 .1 .1 .1 .1 .1 .1 .0) l₁₂))) (back 𝓤 H A W T.the-row 128 l₁₂ (ν ∷ []) δ z (zs .1 .1 .1 .1 .1 .1 .1 .1 .1 .0) lz) $ await ! tt $
+          returns ! (look ! 21 refl) $
+          forget ! 21 refl $ forget ! 22 refl $ forget ! 23 refl $ forget ! 24 refl $ forget ! 25 refl $ forget ! 26 refl $ forget ! 27 refl $ forget ! 28 refl $ forget ! 29 refl $ forget ! 30 refl $ forget ! 31 refl $ forget ! 33 refl $ forget ! 34 refl $ forget ! 35 refl $ forget ! 36 refl $ forget ! 37 refl $ forget ! 38 refl $
+          keep ! (10 ∷ 9 ∷ 8 ∷ 7 ∷ 6 ∷ 5 ∷ 4 ∷ 3 ∷ 2 ∷ 1 ∷ 20 ∷ 19 ∷ 18 ∷ 17 ∷ 16 ∷ 15 ∷ 14 ∷ 13 ∷ 12 ∷ 11 ∷ 0 ∷ 21 ∷ 22 ∷ 23 ∷ 24 ∷ 25 ∷ 26 ∷ 27 ∷ 28 ∷ 29 ∷ 30 ∷ 31 ∷ 32 ∷ 33 ∷ 34 ∷ 35 ∷ 36 ∷ 37 ∷ 38 ∷ 39 ∷ 40 ∷ 41 ∷ 42 ∷ 43 ∷ 44 ∷ 45 ∷ 46 ∷ 47 ∷ 48 ∷ 49 ∷ 50 ∷ 51 ∷ 52 ∷ 53 ∷ 54 ∷ 55 ∷ 56 ∷ 57 ∷ []) $
+          ends r w is (zs .1 .1 .1 .1 .1 .1 .0) (zs .1 .1 .1 .1 .1 .1 .1 .1 .1 .1 .0) (zs .1 .1 .1 .1 .1 .1 .1 .1 .1 .0) lm lo (lent-from-judged _ _ _ _ _ _ _ _ _ _ _ lz _ _ _ _ _ e)))))))))))
 
-    walk : Is (ShrSlice (named 0) κ₀ u8) x₀ (s₀ ∷ []) → Is (ShrSlice (named 1) κ₁ u8) x₁ (s₁ ∷ []) → Is (ShrSlice (named 2) κ₂ u8) x₂ (s₂ ∷ []) → Is (ShrSlice (named 3) κ₃ u8) x₃ (s₃ ∷ []) → Is (ShrSlice (named 4) κ₄ u8) x₄ (s₄ ∷ []) → Is (ShrSlice (named 5) κ₅ u8) x₅ (s₅ ∷ []) → Room u8 (length (x₆ .now)) → Is (ShrSlice (named 7) κ₇ u8) x₇ (s₇ ∷ []) → Room u8 (length (x₈ .now)) → ent 𝓤 (onEntry 𝓤 H A here.signature (κ₀, (κ₁, (κ₂, (κ₃, (κ₄, (κ₅, (κ₆, (κ₇, (κ₈, tt))))))))) (q₀, (q₁, (q₂, (q₃, (q₄, (q₅, (q₆, (q₇, (q₈, tt))))))))) a vals) (WpFn 𝓤 H C Λ code.function (s₀ ∷ s₁ ∷ s₂ ∷ s₃ ∷ s₄ ∷ s₅ ∷ s₆ ∷ s₇ ∷ s₈ ∷ []) Post)
-    walk g₀ g₁ g₂ g₃ g₄ g₅ g₆ g₇ g₈ =
-        qed W ((‵ (flft κ₀ q₀) ⊛ ‵ (flft κ₁ q₁) ⊛ ‵ (flft κ₂ q₂) ⊛ ‵ (flft κ₃ q₃) ⊛ ‵ (flft κ₄ q₄) ⊛ ‵ (flft κ₅ q₅) ⊛ ‵ (flft κ₆ q₆) ⊛ ‵ (flft κ₇ q₇) ⊛ ‵ (flft κ₈ q₈) ⊛ ‵ ftrue) ∷ ‵ (owns (ShrSlice (named 0) κ₀ u8 ∷ ShrSlice (named 1) κ₁ u8 ∷ ShrSlice (named 2) κ₂ u8 ∷ ShrSlice (named 3) κ₃ u8 ∷ ShrSlice (named 4) κ₄ u8 ∷ ShrSlice (named 5) κ₅ u8 ∷ MutSlice (named 6) κ₆ u8 ∷ ShrSlice (named 7) κ₇ u8 ∷ MutSlice (named 8) κ₈ u8 ∷ []) a vals) ∷ []) ∵ enter ! C Λ code.function (s₀ ∷ s₁ ∷ s₂ ∷ s₃ ∷ s₄ ∷ s₅ ∷ s₆ ∷ s₇ ∷ s₈ ∷ []) _ $
-        alloc1 ! (λ l₀. alloc1 ! (λ l₁. alloc1 ! (λ l₂. alloc1 ! (λ l₃. alloc1 ! (λ l₄. alloc1 ! (λ l₅. alloc1 ! (λ l₆. alloc1 ! (λ l₇. alloc1 ! (λ l₈. alloc1 ! (λ l₉. alloc1 ! (λ l₁₀. alloc1 ! (λ l₁₁. alloc1 ! (λ l₁₂. alloc1 ! (λ l₁₃. alloc1 ! (λ l₁₄. alloc1 ! (λ l₁₅. alloc1 ! (λ l₁₆. alloc1 ! (λ l₁₇. alloc0 ! $ params1 ! $
-        pass1 ! (init ! 32 refl (tt, (tt, (record { fits = g₀ .0 .1 .0 }, tt)))) $ pass1 ! (init ! 30 refl (tt, (tt, (record { fits = g₁ .0 .1 .0 }, tt)))) $ pass1 ! (init ! 28 refl (tt, (tt, (record { fits = g₂ .0 .1 .0 }, tt)))) $ pass1 ! (init ! 26 refl (tt, (tt, (record { fits = g₃ .0 .1 .0 }, tt)))) $ pass1 ! (init ! 24 refl (tt, (tt, (record { fits = g₄ .0 .1 .0 }, tt)))) $ pass1 ! (init ! 22 refl (tt, (tt, (record { fits = g₅ .0 .1 .0 }, tt)))) $ pass1 ! (init ! 20 refl (tt, (tt, (record { fits = g₆ .0 }, tt)))) $ pass1 ! (init ! 18 refl (tt, (tt, (record { fits = g₇ .0 .1 .0 }, tt)))) $ pass1 ! (init ! 16 refl (tt, (tt, (record { fits = g₈ .0 }, tt)))) $ pass0 ! $
-        move ! (37 ∷ []) $
+    walk : Is (ShrSlice (named 0) κ₀ u8) x₀ (s₀ ∷ []) → Is (ShrSlice (named 1) κ₁ u8) x₁ (s₁ ∷ []) → Is (ShrSlice (named 2) κ₂ u8) x₂ (s₂ ∷ []) → Is (ShrSlice (named 3) κ₃ u8) x₃ (s₃ ∷ []) → Is (ShrSlice (named 4) κ₄ u8) x₄ (s₄ ∷ []) → Is (ShrSlice (named 5) κ₅ u8) x₅ (s₅ ∷ []) → Room u8 (length (x₆ .now)) → Is (ShrSlice (named 7) κ₇ u8) x₇ (s₇ ∷ []) → Is (ShrSlice (named 8) κ₈ u8) x₈ (s₈ ∷ []) → Room u8 (length (x₉ .now)) → ent 𝓤 (onEntry 𝓤 H A here.signature (κ₀, (κ₁, (κ₂, (κ₃, (κ₄, (κ₅, (κ₆, (κ₇, (κ₈, (κ₉, tt)))))))))) (q₀, (q₁, (q₂, (q₃, (q₄, (q₅, (q₆, (q₇, (q₈, (q₉, tt)))))))))) a vals) (WpFn 𝓤 H C Λ code.function (s₀ ∷ s₁ ∷ s₂ ∷ s₃ ∷ s₄ ∷ s₅ ∷ s₆ ∷ s₇ ∷ s₈ ∷ s₉ ∷ []) Post)
+    walk g₀ g₁ g₂ g₃ g₄ g₅ g₆ g₇ g₈ g₉ =
+        qed W ((‵ (flft κ₀ q₀) ⊛ ‵ (flft κ₁ q₁) ⊛ ‵ (flft κ₂ q₂) ⊛ ‵ (flft κ₃ q₃) ⊛ ‵ (flft κ₄ q₄) ⊛ ‵ (flft κ₅ q₅) ⊛ ‵ (flft κ₆ q₆) ⊛ ‵ (flft κ₇ q₇) ⊛ ‵ (flft κ₈ q₈) ⊛ ‵ (flft κ₉ q₉) ⊛ ‵ ftrue) ∷ ‵ (owns (ShrSlice (named 0) κ₀ u8 ∷ ShrSlice (named 1) κ₁ u8 ∷ ShrSlice (named 2) κ₂ u8 ∷ ShrSlice (named 3) κ₃ u8 ∷ ShrSlice (named 4) κ₄ u8 ∷ ShrSlice (named 5) κ₅ u8 ∷ MutSlice (named 6) κ₆ u8 ∷ ShrSlice (named 7) κ₇ u8 ∷ ShrSlice (named 8) κ₈ u8 ∷ MutSlice (named 9) κ₉ u8 ∷ []) a vals) ∷ []) ∵ enter ! C Λ code.function (s₀ ∷ s₁ ∷ s₂ ∷ s₃ ∷ s₄ ∷ s₅ ∷ s₆ ∷ s₇ ∷ s₈ ∷ s₉ ∷ []) _ $
+        alloc1 ! (λ l₀. alloc1 ! (λ l₁. alloc1 ! (λ l₂. alloc1 ! (λ l₃. alloc1 ! (λ l₄. alloc1 ! (λ l₅. alloc1 ! (λ l₆. alloc1 ! (λ l₇. alloc1 ! (λ l₈. alloc1 ! (λ l₉. alloc1 ! (λ l₁₀. alloc1 ! (λ l₁₁. alloc1 ! (λ l₁₂. alloc1 ! (λ l₁₃. alloc1 ! (λ l₁₄. alloc1 ! (λ l₁₅. alloc1 ! (λ l₁₆. alloc1 ! (λ l₁₇. alloc1 ! (λ l₁₈. alloc0 ! $ params1 ! $
+        pass1 ! (init ! 34 refl (tt, (tt, (record { fits = g₀ .0 .1 .0 }, tt)))) $ pass1 ! (init ! 32 refl (tt, (tt, (record { fits = g₁ .0 .1 .0 }, tt)))) $ pass1 ! (init ! 30 refl (tt, (tt, (record { fits = g₂ .0 .1 .0 }, tt)))) $ pass1 ! (init ! 28 refl (tt, (tt, (record { fits = g₃ .0 .1 .0 }, tt)))) $ pass1 ! (init ! 26 refl (tt, (tt, (record { fits = g₄ .0 .1 .0 }, tt)))) $ pass1 ! (init ! 24 refl (tt, (tt, (record { fits = g₅ .0 .1 .0 }, tt)))) $ pass1 ! (init ! 22 refl (tt, (tt, (record { fits = g₆ .0 }, tt)))) $ pass1 ! (init ! 20 refl (tt, (tt, (record { fits = g₇ .0 .1 .0 }, tt)))) $ pass1 ! (init ! 18 refl (tt, (tt, (record { fits = g₈ .0 .1 .0 }, tt)))) $ pass1 ! (init ! 16 refl (tt, (tt, (record { fits = g₉ .0 }, tt)))) $ pass0 ! $
+        move ! (39 ∷ []) $
+        fsplit ! $
+        move ! (1 ∷ []) $
         fsplit ! $
         move ! (1 ∷ []) $
         fsplit ! $
@@ -436,7 +456,9 @@ module _ {M : Type 1} (𝓤 : URA M) (H : Heap 𝓤) (A : Atoms 𝓤) (W : Given
         fsplit ! $
         move ! (1 ∷ []) $
         drop ! $
-        move ! (45 ∷ []) $
+        move ! (48 ∷ []) $
+        split ! $
+        move ! (1 ∷ []) $
         split ! $
         move ! (1 ∷ []) $
         split ! $
@@ -466,29 +488,29 @@ module _ {M : Type 1} (𝓤 : URA M) (H : Heap 𝓤) (A : Atoms 𝓤) (W : Given
         split ! $
         drop ! $
         peeks ! T.the-row (Is T.the-row) (shown-by 𝓤 H A T.the-row) r₀ (w ∷ []) (λ is₀.
-        land ! (from ! (stop !)) (init ! 33 refl (LL.lawful T.the-type T′.the-laws 𝓤 H A W .typed r₀ _ is₀ .0)) $
+        land ! (from ! (stop !)) (init ! 35 refl (LL.lawful T.the-type T′.the-laws 𝓤 H A W .typed r₀ _ is₀ .0)) $
         use1 W (‵ (Array T.the-row 128 .own (replicate 128 r₀) (arrayVal (replicate 128 w) ∷ []))) (array-repeat 𝓤 H A W T.the-row (LL.copy T.the-type T′.the-copy 𝓤 H A W) 128 r₀ w) $
         peeks ! (Array T.the-row 128) (Is (Array T.the-row 128)) (shown-by 𝓤 H A (Array T.the-row 128)) (replicate 128 r₀) (arrayVal (replicate 128 w) ∷ []) (λ iz.
-        assigns ! (rep ! 128 (load ! (from ! (stop !)) (look ! 33 refl))) (from ! (stop !)) (init ! 31 refl (array-lawful 𝓤 H A W T.the-row (LL.lawful T.the-type T′.the-laws 𝓤 H A W) 128 .typed (replicate 128 r₀) _ iz .0)) $
-        move ! (31 ∷ 0 ∷ []) $
-        use2 W (‵ (Lies T.the-row 128 (replicate 128 r₀) l₁₁)) (laid 𝓤 H A W T.the-row 128 l₁₁ tt (replicate 128 r₀) (arrayVal (replicate 128 w))) $
-        use1 W (some (λ (z : List Record). given (z ≡ replicate 128 r₀) (‵ (Lies T.the-row 128 z l₁₁)))) (hidden 𝓤 H A W T.the-row 128 l₁₁ (replicate 128 r₀)) $
+        assigns ! (rep ! 128 (load ! (from ! (stop !)) (look ! 35 refl))) (from ! (stop !)) (init ! 33 refl (array-lawful 𝓤 H A W T.the-row (LL.lawful T.the-type T′.the-laws 𝓤 H A W) 128 .typed (replicate 128 r₀) _ iz .0)) $
+        move ! (33 ∷ 0 ∷ []) $
+        use2 W (‵ (Lies T.the-row 128 (replicate 128 r₀) l₁₂)) (laid 𝓤 H A W T.the-row 128 l₁₂ tt (replicate 128 r₀) (arrayVal (replicate 128 w))) $
+        use1 W (some (λ (z : List Record). given (z ≡ replicate 128 r₀) (‵ (Lies T.the-row 128 z l₁₂)))) (hidden 𝓤 H A W T.the-row 128 l₁₂ (replicate 128 r₀)) $
         pick ! (λ z. learn ! (λ ez.
-        forget ! 32 refl $
-        keep ! (9 ∷ 8 ∷ 7 ∷ 6 ∷ 5 ∷ 4 ∷ 3 ∷ 2 ∷ 1 ∷ 18 ∷ 17 ∷ 16 ∷ 15 ∷ 14 ∷ 13 ∷ 11 ∷ 12 ∷ 10 ∷ 0 ∷ 52 ∷ 50 ∷ 48 ∷ 46 ∷ 44 ∷ 42 ∷ 40 ∷ 38 ∷ 36 ∷ 34 ∷ 32 ∷ 29 ∷ 27 ∷ 25 ∷ 23 ∷ 21 ∷ 19 ∷ 53 ∷ 51 ∷ 49 ∷ 47 ∷ 45 ∷ 43 ∷ 41 ∷ 39 ∷ 37 ∷ 35 ∷ 33 ∷ 31 ∷ 30 ∷ 28 ∷ 26 ∷ 24 ∷ 22 ∷ 20 ∷ []) $
-        call-judge l₀ l₁ l₂ l₃ l₄ l₅ l₆ l₇ l₈ l₉ l₁₀ l₁₁ l₁₂ l₁₃ l₁₄ l₁₅ l₁₆ l₁₇ g₆ g₈ z (table-length z r₀ ez)))))))))))))))))))))))))
+        forget ! 34 refl $
+        keep ! (10 ∷ 9 ∷ 8 ∷ 7 ∷ 6 ∷ 5 ∷ 4 ∷ 3 ∷ 2 ∷ 1 ∷ 20 ∷ 19 ∷ 18 ∷ 17 ∷ 16 ∷ 15 ∷ 13 ∷ 12 ∷ 14 ∷ 11 ∷ 0 ∷ 56 ∷ 54 ∷ 52 ∷ 50 ∷ 48 ∷ 46 ∷ 44 ∷ 42 ∷ 40 ∷ 38 ∷ 36 ∷ 34 ∷ 31 ∷ 29 ∷ 27 ∷ 25 ∷ 23 ∷ 21 ∷ 57 ∷ 55 ∷ 53 ∷ 51 ∷ 49 ∷ 47 ∷ 45 ∷ 43 ∷ 41 ∷ 39 ∷ 37 ∷ 35 ∷ 33 ∷ 32 ∷ 30 ∷ 28 ∷ 26 ∷ 24 ∷ 22 ∷ []) $
+        call-judge l₀ l₁ l₂ l₃ l₄ l₅ l₆ l₇ l₈ l₉ l₁₀ l₁₁ l₁₂ l₁₃ l₁₄ l₁₅ l₁₆ l₁₇ l₁₈ g₆ g₉ z (table-length z r₀ ez))))))))))))))))))))))))))
 
 module _ {M : Type 1} (𝓤 : URA M) (H : Heap 𝓤) (A : Atoms 𝓤) (W : Given 𝓤 H A) (mem : Memory → SProp 𝓤) (run : Routine → Fun 𝓤) where
   here-walks : (C : Calls 𝓤 H) (Λ : Loops 𝓤 H) → FmC 𝓤 H (W .laws) C → Triple 𝓤 (C #blank) (Blank 𝓤 H A mem run) → Triple 𝓤 (C #judge) (Judge 𝓤 H A mem run) → Walks 𝓤 H A here.ended stayed (WpFn 𝓤 H C Λ code.function) (here.clauses 𝓤 H A mem run)
   here-walks C Λ fm known-blank known-judge = walked 𝓤 H A here.ended stayed (here.clauses 𝓤 H A mem run) (WpFn 𝓤 H C Λ code.function)
-      (λ κs. (slice-vals, (slice-vals, (slice-vals, (slice-vals, (slice-vals, (slice-vals, (slice-vals, (slice-vals, (slice-vals, tt)))))))))) (λ κs. (shr-slice-tells (named 0) (κs .0) u8, (shr-slice-tells (named 1) (κs .1 .0) u8, (shr-slice-tells (named 2) (κs .1 .1 .0) u8, (shr-slice-tells (named 3) (κs .1 .1 .1 .0) u8, (shr-slice-tells (named 4) (κs .1 .1 .1 .1 .0) u8, (shr-slice-tells (named 5) (κs .1 .1 .1 .1 .1 .0) u8, (mut-slice-tells (named 6) (κs .1 .1 .1 .1 .1 .1 .0) u8, (shr-slice-tells (named 7) (κs .1 .1 .1 .1 .1 .1 .1 .0) u8, (mut-slice-tells (named 8) (κs .1 .1 .1 .1 .1 .1 .1 .1 .0) u8, tt))))))))))
+      (λ κs. (slice-vals, (slice-vals, (slice-vals, (slice-vals, (slice-vals, (slice-vals, (slice-vals, (slice-vals, (slice-vals, (slice-vals, tt))))))))))) (λ κs. (shr-slice-tells (named 0) (κs .0) u8, (shr-slice-tells (named 1) (κs .1 .0) u8, (shr-slice-tells (named 2) (κs .1 .1 .0) u8, (shr-slice-tells (named 3) (κs .1 .1 .1 .0) u8, (shr-slice-tells (named 4) (κs .1 .1 .1 .1 .0) u8, (shr-slice-tells (named 5) (κs .1 .1 .1 .1 .1 .0) u8, (mut-slice-tells (named 6) (κs .1 .1 .1 .1 .1 .1 .0) u8, (shr-slice-tells (named 7) (κs .1 .1 .1 .1 .1 .1 .1 .0) u8, (shr-slice-tells (named 8) (κs .1 .1 .1 .1 .1 .1 .1 .1 .0) u8, (mut-slice-tells (named 9) (κs .1 .1 .1 .1 .1 .1 .1 .1 .1 .0) u8, tt)))))))))))
       (λ κs qs bounds a g are. via 𝓤 _ (fst∗ 𝓤 _ (emp 𝓤))
-      (walk 𝓤 H A W mem run (κs .0) (κs .1 .0) (κs .1 .1 .0) (κs .1 .1 .1 .0) (κs .1 .1 .1 .1 .0) (κs .1 .1 .1 .1 .1 .0) (κs .1 .1 .1 .1 .1 .1 .0) (κs .1 .1 .1 .1 .1 .1 .1 .0) (κs .1 .1 .1 .1 .1 .1 .1 .1 .0) (qs .0) (qs .1 .0) (qs .1 .1 .0) (qs .1 .1 .1 .0) (qs .1 .1 .1 .1 .0) (qs .1 .1 .1 .1 .1 .0) (qs .1 .1 .1 .1 .1 .1 .0) (qs .1 .1 .1 .1 .1 .1 .1 .0) (qs .1 .1 .1 .1 .1 .1 .1 .1 .0) (a .0) (a .1 .0) (a .1 .1 .0) (a .1 .1 .1 .0) (a .1 .1 .1 .1 .0) (a .1 .1 .1 .1 .1 .0) (a .1 .1 .1 .1 .1 .1 .0) (a .1 .1 .1 .1 .1 .1 .1 .0) (a .1 .1 .1 .1 .1 .1 .1 .1 .0) C Λ fm known-blank known-judge (are .0) (are .1 .0) (are .1 .1 .0) (are .1 .1 .1 .0) (are .1 .1 .1 .1 .0) (are .1 .1 .1 .1 .1 .0) (are .1 .1 .1 .1 .1 .1 .0 .0 .1) (are .1 .1 .1 .1 .1 .1 .1 .0) (are .1 .1 .1 .1 .1 .1 .1 .1 .0 .0 .1)))
+      (walk 𝓤 H A W mem run (κs .0) (κs .1 .0) (κs .1 .1 .0) (κs .1 .1 .1 .0) (κs .1 .1 .1 .1 .0) (κs .1 .1 .1 .1 .1 .0) (κs .1 .1 .1 .1 .1 .1 .0) (κs .1 .1 .1 .1 .1 .1 .1 .0) (κs .1 .1 .1 .1 .1 .1 .1 .1 .0) (κs .1 .1 .1 .1 .1 .1 .1 .1 .1 .0) (qs .0) (qs .1 .0) (qs .1 .1 .0) (qs .1 .1 .1 .0) (qs .1 .1 .1 .1 .0) (qs .1 .1 .1 .1 .1 .0) (qs .1 .1 .1 .1 .1 .1 .0) (qs .1 .1 .1 .1 .1 .1 .1 .0) (qs .1 .1 .1 .1 .1 .1 .1 .1 .0) (qs .1 .1 .1 .1 .1 .1 .1 .1 .1 .0) (a .0) (a .1 .0) (a .1 .1 .0) (a .1 .1 .1 .0) (a .1 .1 .1 .1 .0) (a .1 .1 .1 .1 .1 .0) (a .1 .1 .1 .1 .1 .1 .0) (a .1 .1 .1 .1 .1 .1 .1 .0) (a .1 .1 .1 .1 .1 .1 .1 .1 .0) (a .1 .1 .1 .1 .1 .1 .1 .1 .1 .0) C Λ fm known-blank known-judge (are .0) (are .1 .0) (are .1 .1 .0) (are .1 .1 .1 .0) (are .1 .1 .1 .1 .0) (are .1 .1 .1 .1 .1 .0) (are .1 .1 .1 .1 .1 .1 .0 .0 .1) (are .1 .1 .1 .1 .1 .1 .1 .0) (are .1 .1 .1 .1 .1 .1 .1 .1 .0) (are .1 .1 .1 .1 .1 .1 .1 .1 .1 .0 .0 .1)))
 
 here-meets : {M : Type 1} (𝓤 : URA M) (H : Heap 𝓤) (A : Atoms 𝓤) → Given 𝓤 H A → (mem : Memory → SProp 𝓤) (run : Routine → Fun 𝓤) (𝓣 : Tables 𝓤 H) → Triple 𝓤 (𝓣 .C #blank) (Blank 𝓤 H A mem run) → Triple 𝓤 (𝓣 .C #judge) (Judge 𝓤 H A mem run)
     → Meets 𝓤 H A here.signature (WpFn 𝓤 H (𝓣 .C) (𝓣 .Λ) code.function) (here.spec 𝓤 H A mem run)
 here-meets 𝓤 H A W mem run 𝓣 known-blank known-judge =
-    walk-meets 𝓤 H A here.ended stayed W (goes-none-slice 𝓤 H A W 9 (0 ∷ []) tt (plain (λ _. u8)) kept, (goes-none-slice 𝓤 H A W 9 (1 ∷ []) tt (plain (λ _. u8)) kept, (goes-none-slice 𝓤 H A W 9 (2 ∷ []) tt (plain (λ _. u8)) kept, (goes-none-slice 𝓤 H A W 9 (3 ∷ []) tt (plain (λ _. u8)) kept, (goes-none-slice 𝓤 H A W 9 (4 ∷ []) tt (plain (λ _. u8)) kept, (goes-none-slice 𝓤 H A W 9 (5 ∷ []) tt (plain (λ _. u8)) kept, (goes-gave-slice 𝓤 H A W 9 6 tt (plain (λ _. u8)), (goes-none-slice 𝓤 H A W 9 (7 ∷ []) tt (plain (λ _. u8)) kept, (goes-gave-slice 𝓤 H A W 9 8 tt (plain (λ _. u8)), tt))))))))) (here.clauses 𝓤 H A mem run)
+    walk-meets 𝓤 H A here.ended stayed W (goes-none-slice 𝓤 H A W 10 (0 ∷ []) tt (plain (λ _. u8)) kept, (goes-none-slice 𝓤 H A W 10 (1 ∷ []) tt (plain (λ _. u8)) kept, (goes-none-slice 𝓤 H A W 10 (2 ∷ []) tt (plain (λ _. u8)) kept, (goes-none-slice 𝓤 H A W 10 (3 ∷ []) tt (plain (λ _. u8)) kept, (goes-none-slice 𝓤 H A W 10 (4 ∷ []) tt (plain (λ _. u8)) kept, (goes-none-slice 𝓤 H A W 10 (5 ∷ []) tt (plain (λ _. u8)) kept, (goes-gave-slice 𝓤 H A W 10 6 tt (plain (λ _. u8)), (goes-none-slice 𝓤 H A W 10 (7 ∷ []) tt (plain (λ _. u8)) kept, (goes-none-slice 𝓤 H A W 10 (8 ∷ []) tt (plain (λ _. u8)) kept, (goes-gave-slice 𝓤 H A W 10 9 tt (plain (λ _. u8)), tt)))))))))) (here.clauses 𝓤 H A mem run)
     (WpFn 𝓤 H (𝓣 .C) (𝓣 .Λ) code.function) (WpFn-mono 𝓤 H (W .laws) 𝓣 code.function) (here-walks 𝓤 H A W mem run (𝓣 .C) (𝓣 .Λ) (fmOf 𝓤 H (W .laws) 𝓣) known-blank known-judge)
 
 pub judge-lent-spec : {M : Type 1} → stated.statement M

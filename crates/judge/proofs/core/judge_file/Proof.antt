@@ -12,14 +12,14 @@ use Rattle.judge.proofs.core.judge_file.Tie as tie
 abbrev call : tie.Start → Call
 call s =
     let a = s .args in
-    callOf (a .name .now) (a .received .now) (a .card .now) (a .names .now) (a .book .now) (a .debits .now) (a .marks .now) (a .tif .now) (a .room) (a .out .now)
+    callOf (a .name .now) (a .received .now) (a .card .now) (a .names .now) (a .book .now) (a .debits .now) (a .marks .now) (a .tif .now) (a .tst .now) (a .room) (a .out .now)
 
 abbrev start : tie.After-judge-all → tie.Start
-start c = c .before .before .before .before .before .before .before .before .before .before .before .before .before .before
+start c = c .before .before .before .before .before .before .before .before .before .before .before .before .before .before .before
 
 judge-all-requires : tie.Need-judge-all-requires
 judge-all-requires c κs =
-    let s = c .before .before .before .before .before .before .before .before .before .before .before .before .before in
+    let s = c .before .before .before .before .before .before .before .before .before .before .before .before .before .before in
     lines-ready (call s) (sound (call s) _ _ (s .pre)) (s .args .whole) (s .pre .file) (s .args .words .now) (s .pre .ready .room)
 
 sub-summarize : tie.Need-sub-summarize

@@ -32,10 +32,10 @@ part-judge-lines-end-2 : tie.Need-part-judge-lines-end-2
 part-judge-lines-end-2 c = search needs
 
 abbrev entry : tie.After-judge-lines-arg2 → tie.Start
-entry c = c .before .before .before .before .before .before .before .before .before .before
+entry c = c .before .before .before .before .before .before .before .before .before .before .before
 
 judge-lines-requires : tie.Need-judge-lines-requires
-judge-lines-requires c κs = let s = entry c in given-parts _ _ _ _ _ (s .args .m) (s .args .n) (s .pre .0 .room) (s .pre .0 .given)
+judge-lines-requires c κs = let s = entry c in (given-parts _ _ _ _ _ (s .args .m) (s .args .n) (s .pre .0 .room) (s .pre .0 .given), s .pre .0 .tabled)
 
 same-length : tie.Need-same-length
 same-length c = search needs
@@ -48,7 +48,7 @@ returns c =
     let g = c .before .before .before .before in
     let s = entry (g .before) in
     let f = g .before .before .before in
-    parts-filled _ _ _ _ _ _ _ _ (s .pre .1) (s .pre .0 .room) _ _ (f .before .side-of .ensures) (f .field .ensures) _ _ _ (g .judge-lines .kept .1 .1 .1 .1 .0 ∙ rw sub-zero (length-take-le _ _ (s .pre .1))) (g .judge-lines .ensures)
+    parts-filled _ _ _ _ _ _ _ _ _ (s .pre .1) (s .pre .0 .room) _ _ (f .before .side-of .ensures) (f .field .ensures) _ _ _ (g .judge-lines .kept .1 .1 .1 .1 .0 ∙ rw sub-zero (length-take-le _ _ (s .pre .1))) (g .judge-lines .ensures)
 
 pub judge-parts-spec : {M : Type 1} → statement M
 judge-parts-spec =

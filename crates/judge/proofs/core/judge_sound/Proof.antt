@@ -1,4 +1,4 @@
-use mathlib.Core.Path.{_≡_, refl}
+use mathlib.Core.Path.{_≡_, refl, sym, _∙_}
 use borrow.Author.Needs.{needs}
 use Rattle.judge.specs.Call.{Call, callOf}
 use Rattle.judge.specs.WholeLaws.{file-refused, no-lines, widths}
@@ -11,7 +11,7 @@ use Rattle.judge.proofs.core.judge_sound.Tie as tie
 abbrev call : tie.Start → Call
 call s =
     let a = s .args in
-    callOf (a .name .now) (a .received .now) (a .card .now) (a .names .now) (a .book .now) (a .debits .now) (a .marks .now) (a .tif .now) (a .room) (a .out .now)
+    callOf (a .name .now) (a .received .now) (a .card .now) (a .names .now) (a .book .now) (a .debits .now) (a .marks .now) (a .tif .now) (a .tst .now) (a .room) (a .out .now)
 
 acceptance-of-requires : tie.Need-acceptance-of-requires
 acceptance-of-requires c κs = search needs
@@ -21,15 +21,16 @@ enum-known-whole c = search needs
 
 judge-file-requires : tie.Need-judge-file-requires
 judge-file-requires c κs =
-    let s = c .before .before .before .before .before .before .before .before .before .before .before .before .before .before .before .before .before in
-    record { ready = s .pre; file = cc }
+    let s = c .before .before .before .before .before .before .before .before .before .before .before .before .before .before .before .before .before .before in
+    let z = c .before .before .before in
+    record { ready = s .pre; file = sym (z .before .before .before .acceptance-of .ensures) ∙ z .before .whole .given .1 }
 
 enum-told : tie.Need-enum-told
 enum-told c = search needs
 
 refuse-file-requires : tie.Need-refuse-file-requires
 refuse-file-requires c κs =
-    let s = c .before .before .before .before .before .before .before .before .before .before .before .before .before .before in
+    let s = c .before .before .before .before .before .before .before .before .before .before .before .before .before .before .before in
     widths (call s) (s .pre .sound)
 
 enum-told-2 : tie.Need-enum-told-2
@@ -37,7 +38,7 @@ enum-told-2 c = search needs
 
 refuse-file-requires-2 : tie.Need-refuse-file-requires-2
 refuse-file-requires-2 c κs =
-    let s = c .before .before .before .before .before .before .before .before .before .before .before .before .before .before in
+    let s = c .before .before .before .before .before .before .before .before .before .before .before .before .before .before .before in
     widths (call s) (s .pre .sound)
 
 enum-told-3 : tie.Need-enum-told-3
@@ -45,7 +46,7 @@ enum-told-3 c = search needs
 
 refuse-file-requires-3 : tie.Need-refuse-file-requires-3
 refuse-file-requires-3 c κs =
-    let s = c .before .before .before .before .before .before .before .before .before .before .before .before .before .before in
+    let s = c .before .before .before .before .before .before .before .before .before .before .before .before .before .before .before in
     widths (call s) (s .pre .sound)
 
 enum-told-4 : tie.Need-enum-told-4
@@ -53,7 +54,7 @@ enum-told-4 c = search needs
 
 refuse-file-requires-4 : tie.Need-refuse-file-requires-4
 refuse-file-requires-4 c κs =
-    let s = c .before .before .before .before .before .before .before .before .before .before .before .before .before .before in
+    let s = c .before .before .before .before .before .before .before .before .before .before .before .before .before .before .before in
     widths (call s) (s .pre .sound)
 
 same-length : tie.Need-same-length
@@ -73,7 +74,7 @@ same-length-4 c = search needs
 
 returns-2 : tie.Need-returns-2
 returns-2 c =
-    let s = c .before .before .before .before .before .before .before .before .before .before .before .before .before .before .before .before .before in
+    let s = c .before .before .before .before .before .before .before .before .before .before .before .before .before .before .before .before .before .before in
     let e : acceptanceOf (s .args .name .now) (s .args .names .now) (s .args .tif .now) ≡ Acceptance.AlreadyReceived = cc in
     file-refused (call s) (s .pre .sound) _ (no-lines (call s) Acceptance.AlreadyReceived e refl refl) _ _ _ (c .before .before .refuse-file .ensures)
 
@@ -82,7 +83,7 @@ same-length-5 c = search needs
 
 returns-3 : tie.Need-returns-3
 returns-3 c =
-    let s = c .before .before .before .before .before .before .before .before .before .before .before .before .before .before .before .before .before in
+    let s = c .before .before .before .before .before .before .before .before .before .before .before .before .before .before .before .before .before .before in
     let e : acceptanceOf (s .args .name .now) (s .args .names .now) (s .args .tif .now) ≡ Acceptance.OutOfForm = cc in
     file-refused (call s) (s .pre .sound) _ (no-lines (call s) Acceptance.OutOfForm e refl refl) _ _ _ (c .before .before .refuse-file2 .ensures)
 
@@ -91,7 +92,7 @@ same-length-6 c = search needs
 
 returns-4 : tie.Need-returns-4
 returns-4 c =
-    let s = c .before .before .before .before .before .before .before .before .before .before .before .before .before .before .before .before .before in
+    let s = c .before .before .before .before .before .before .before .before .before .before .before .before .before .before .before .before .before .before in
     let e : acceptanceOf (s .args .name .now) (s .args .names .now) (s .args .tif .now) ≡ Acceptance.CountsDiffer = cc in
     file-refused (call s) (s .pre .sound) _ (no-lines (call s) Acceptance.CountsDiffer e refl refl) _ _ _ (c .before .before .refuse-file3 .ensures)
 
@@ -100,7 +101,7 @@ same-length-7 c = search needs
 
 returns-5 : tie.Need-returns-5
 returns-5 c =
-    let s = c .before .before .before .before .before .before .before .before .before .before .before .before .before .before .before .before .before in
+    let s = c .before .before .before .before .before .before .before .before .before .before .before .before .before .before .before .before .before .before in
     let e : acceptanceOf (s .args .name .now) (s .args .names .now) (s .args .tif .now) ≡ Acceptance.TotalDiffers = cc in
     file-refused (call s) (s .pre .sound) _ (no-lines (call s) Acceptance.TotalDiffers e refl refl) _ _ _ (c .before .before .refuse-file4 .ensures)
 

@@ -10,7 +10,7 @@ use Rattle.judge.proofs.core.try_call.Tie as tie
 abbrev call : tie.Start → Call
 call s =
     let a = s .args in
-    callOf (a .name .now) (a .received .now) (a .card .now) (a .names .now) (a .book .now) (a .debits .now) (a .marks .now) (a .tif .now) (a .room) (a .out .now)
+    callOf (a .name .now) (a .received .now) (a .card .now) (a .names .now) (a .book .now) (a .debits .now) (a .marks .now) (a .tif .now) (a .tst .now) (a .room) (a .out .now)
 
 check-call-requires : tie.Need-check-call-requires
 check-call-requires c κs = search needs
@@ -23,7 +23,7 @@ enum-told c = search needs
 
 judge-sound-requires : tie.Need-judge-sound-requires
 judge-sound-requires c κs =
-    let s = c .before .before .before .before .before .before .before .before .before .before .before .before .before .before .before .before .before in
+    let s = c .before .before .before .before .before .before .before .before .before .before .before .before .before .before .before .before .before .before in
     let e : checkOf (call s) ≡ CallCheck.Sound = cc in
     record { sound = e; room = s .pre }
 
@@ -32,7 +32,7 @@ same-length c = search needs
 
 returns : tie.Need-returns
 returns c =
-    let s = c .before .before .before .before .before .before .before .before .before .before .before .before .before .before .before in
+    let s = c .before .before .before .before .before .before .before .before .before .before .before .before .before .before .before .before in
     let e : checkOf (call s) ≡ CallCheck.Faulty (c .before .fault .given .0 .0) = cc in
     refused-call (call s) _ e _
 

@@ -11,13 +11,13 @@ use Rattle.judge.proofs.words.judge_words.Tie as tie
 abbrev call : tie.Start → Call
 call s =
     let a = s .args in
-    callOf (a .name .now) (a .received .now) (a .card .now) (a .names .now) (a .book .now) (a .debits .now) (a .marks .now) (a .tif .now) (a .room) (a .out .now)
+    callOf (a .name .now) (a .received .now) (a .card .now) (a .names .now) (a .book .now) (a .debits .now) (a .marks .now) (a .tif .now) (a .tst .now) (a .room) (a .out .now)
 
 abbrev tried-by : tie.After-lines-to-record → tie.After-try-call
 tried-by l = l .before .before .before .before .before .before
 
 abbrev start : tie.After-try-call → tie.Start
-start t = t .before .before .before .before .before .before .before .before .before .before .before .before .before
+start t = t .before .before .before .before .before .before .before .before .before .before .before .before .before .before
 
 slice-aggregate-try-call : tie.Need-slice-aggregate-try-call
 slice-aggregate-try-call c = search needs
@@ -45,7 +45,7 @@ keep-words-requires : tie.Need-keep-words-requires
 keep-words-requires c κs =
     let l = c .before .before .before in
     let t = tried-by l in
-    let ws = t .try-call .last .1 .1 .1 .1 .1 .1 .1 .1 .1 .0 in
+    let ws = t .try-call .last .1 .1 .1 .1 .1 .1 .1 .1 .1 .1 .0 in
     let m : length ws ≤ length (start t .args .words .now) = search needs in
     omega (arith, length-take (l .lines-to-record .result - 0) ws, m)
 

@@ -11,7 +11,7 @@ judge-line-requires c κs = search needs
 word-of-requires : tie.Need-word-of-requires
 word-of-requires c κs =
     let g = c .before .before in
-    let p = g .before .before .before .before .before .before .before .before .pre .0 in
+    let p = g .before .before .before .before .before .before .before .before .before .pre .0 in
     rw (g .judge-line .ensures .verdict) (verdict-fits _ _ _ (p .booked) (p .few))
 
 mul-words : tie.Need-mul-words

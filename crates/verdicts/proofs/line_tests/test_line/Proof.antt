@@ -14,7 +14,7 @@ is-lawful-type-requires c κs = search needs
 
 -- the tests, as the line at hand meets them, and each test that was passed on the way to what comes after it
 abbrev rows1 : tie.After-is-lawful-type → List (Row LineTest)
-rows1 c = let a = c .before .before .before .args in failing (lineRows (a .side) (a .sender .now) (a .line .now))
+rows1 c = let a = c .before .before .before .args in failing (lineRows (a .side) (a .sender .now) (a .known) (a .line .now))
 
 after1 : (c : tie.Else1) {r : LineTest} → Picks (drop 1 (rows1 (c .before))) LineTest.Passes r → Picks (rows1 (c .before)) LineTest.Passes r
 after1 c p = past (ap not (sym (c .before .is-lawful-type .ensures)) ∙ c .if1 .left) p
@@ -31,11 +31,15 @@ rows3 c = rows2 (c .before .before)
 after3 : (c : tie.Else3) {r : LineTest} → Picks (drop 3 (rows3 (c .before))) LineTest.Passes r → Picks (rows3 (c .before)) LineTest.Passes r
 after3 c p = after2 (c .before .before) (past (ap not (sym (c .before .is-from-sender .ensures)) ∙ c .if3 .left) p)
 
-abbrev rows4 : tie.After-is-known-vehicle → List (Row LineTest)
-rows4 c = rows3 (c .before .before)
+-- whether the station is known is told, so that nothing is called for it
+after4 : (c : tie.Else4) {r : LineTest} → Picks (drop 4 (rows3 (c .before .before))) LineTest.Passes r → Picks (rows3 (c .before .before)) LineTest.Passes r
+after4 c p = after3 (c .before) (past (c .if4 .left) p)
 
-after4 : (c : tie.Else4) {r : LineTest} → Picks (drop 4 (rows4 (c .before))) LineTest.Passes r → Picks (rows4 (c .before)) LineTest.Passes r
-after4 c p = after3 (c .before .before) (past (ap not (sym (c .before .is-known-vehicle .ensures)) ∙ c .if4 .left) p)
+abbrev rows5 : tie.After-is-known-vehicle → List (Row LineTest)
+rows5 c = rows3 (c .before .before .before)
+
+after5 : (c : tie.Else5) {r : LineTest} → Picks (drop 5 (rows5 (c .before))) LineTest.Passes r → Picks (rows5 (c .before)) LineTest.Passes r
+after5 c p = after4 (c .before .before) (past (ap not (sym (c .before .is-known-vehicle .ensures)) ∙ c .if5 .left) p)
 
 returns : tie.Need-returns
 unfolding testLine
@@ -55,23 +59,27 @@ returns-3 : tie.Need-returns-3
 unfolding testLine
 returns-3 c = picked (after2 (c .before .before) (here (ap not (sym (c .before .is-from-sender .ensures)) ∙ c .if3 .taken)))
 
+returns-4 : tie.Need-returns-4
+unfolding testLine
+returns-4 c = picked (after3 (c .before) (here (c .if4 .taken)))
+
 is-known-vehicle-requires : tie.Need-is-known-vehicle-requires
 is-known-vehicle-requires c κs = search needs
 
-returns-4 : tie.Need-returns-4
+returns-5 : tie.Need-returns-5
 unfolding testLine
-returns-4 c = picked (after3 (c .before .before) (here (ap not (sym (c .before .is-known-vehicle .ensures)) ∙ c .if4 .taken)))
+returns-5 c = picked (after4 (c .before .before) (here (ap not (sym (c .before .is-known-vehicle .ensures)) ∙ c .if5 .taken)))
 
 plates-in-form-requires : tie.Need-plates-in-form-requires
 plates-in-form-requires c κs = search needs
 
-returns-5 : tie.Need-returns-5
-unfolding testLine
-returns-5 c = picked (after4 (c .before .before) (here (ap not (sym (c .before .plates-in-form .ensures)) ∙ c .if5 .taken)))
-
 returns-6 : tie.Need-returns-6
 unfolding testLine
-returns-6 c = picked (after4 (c .before .before) (past (ap not (sym (c .before .plates-in-form .ensures)) ∙ c .if5 .left) none))
+returns-6 c = picked (after5 (c .before .before) (here (ap not (sym (c .before .plates-in-form .ensures)) ∙ c .if6 .taken)))
+
+returns-7 : tie.Need-returns-7
+unfolding testLine
+returns-7 c = picked (after5 (c .before .before) (past (ap not (sym (c .before .plates-in-form .ensures)) ∙ c .if6 .left) none))
 
 pub test-line-spec : {M : Type 1} → statement M
 test-line-spec =
@@ -83,8 +91,9 @@ test-line-spec =
     returns-2
     is-from-sender-requires
     returns-3
-    is-known-vehicle-requires
     returns-4
-    plates-in-form-requires
+    is-known-vehicle-requires
     returns-5
-    returns-6)
+    plates-in-form-requires
+    returns-6
+    returns-7)

@@ -45,20 +45,25 @@ returns-8 c = picked (past (omega tests) (past (omega tests) (past (omega tests)
 
 returns-9 : tie.Need-returns-9
 unfolding verdictOf
-returns-9 c =
+returns-9 c = picked (past (omega tests) (past (omega tests) (past (omega tests) (past (omega tests) (past (omega tests) (past (omega tests) (past (omega tests) (past (omega tests) (here (omega tests))))))))))
+
+returns-10 : tie.Need-returns-10
+unfolding verdictOf
+returns-10 c =
     let n = wordNumber (c .before .before .args .word) in
     let m = c .before .match .rest in
     c .acceptance-of .ensures
     ∙ picked
-    (past (ne-eqb n 1 (m .0 .0 .0 .0 .0 .0 .0 .1))
-    (past (ne-eqb n 2 (m .0 .0 .0 .0 .0 .0 .1))
-    (past (ne-eqb n 3 (m .0 .0 .0 .0 .0 .1))
-    (past (ne-eqb n 4 (m .0 .0 .0 .0 .1))
-    (past (ne-eqb n 5 (m .0 .0 .0 .1))
-    (past (ne-eqb n 6 (m .0 .0 .1))
-    (past (ne-eqb n 7 (m .0 .1))
-    (past (ne-eqb n 8 (m .1))
-    none))))))))
+    (past (ne-eqb n 1 (m .0 .0 .0 .0 .0 .0 .0 .0 .1))
+    (past (ne-eqb n 2 (m .0 .0 .0 .0 .0 .0 .0 .1))
+    (past (ne-eqb n 3 (m .0 .0 .0 .0 .0 .0 .1))
+    (past (ne-eqb n 4 (m .0 .0 .0 .0 .0 .1))
+    (past (ne-eqb n 5 (m .0 .0 .0 .0 .1))
+    (past (ne-eqb n 6 (m .0 .0 .0 .1))
+    (past (ne-eqb n 7 (m .0 .0 .1))
+    (past (ne-eqb n 8 (m .0 .1))
+    (past (ne-eqb n 9 (m .1))
+    none)))))))))
 
 pub verdict-of-spec : {M : Type 1} → statement M
 verdict-of-spec =
@@ -73,4 +78,5 @@ verdict-of-spec =
     returns-6
     returns-7
     returns-8
-    returns-9)
+    returns-9
+    returns-10)

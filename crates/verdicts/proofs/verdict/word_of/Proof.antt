@@ -52,6 +52,9 @@ enum-told-7 c = search needs
 enum-told-8 : tie.Need-enum-told-8
 enum-told-8 c = search needs
 
+enum-told-9 : tie.Need-enum-told-9
+enum-told-9 c = search needs
+
 returns : tie.Need-returns
 returns c = omega (arith, ap wordOf (c .before .v .given .1))
 
@@ -82,6 +85,9 @@ returns-9 c = let e : c .before .before .args .v ≡ Verdict.NotCovered = cc in 
 returns-10 : tie.Need-returns-10
 returns-10 c = let e : c .before .before .args .v ≡ Verdict.NoDebit = cc in sym (ap wordOf e)
 
+returns-11 : tie.Need-returns-11
+returns-11 c = let e : c .before .before .args .v ≡ Verdict.UnknownStation = cc in sym (ap wordOf e)
+
 pub word-of-spec : {M : Type 1} → statement M
 word-of-spec =
     tie.close
@@ -100,6 +106,7 @@ word-of-spec =
     enum-told-6
     enum-told-7
     enum-told-8
+    enum-told-9
     returns
     returns-2
     returns-3
@@ -109,4 +116,5 @@ word-of-spec =
     returns-7
     returns-8
     returns-9
-    returns-10)
+    returns-10
+    returns-11)

@@ -10,32 +10,32 @@ use Rattle.lines.specs.Below.{tableBelow}
 use Rattle.lines.specs.BelowLaws.{table-zero}
 use Rattle.judging.specs.Judging.{judging, marksBefore, wordAt, wordsOf}
 use Rattle.judging.specs.StepLaws.{turn, before-zero}
-use Rattle.judging.proofs.file.judge_lines.Statement.{statement}
-use Rattle.judging.proofs.file.judge_lines.Tie as tie
+use Rattle.judging.proofs.file.judge_each.Statement.{statement}
+use Rattle.judging.proofs.file.judge_each.Tie as tie
 
 abbrev Inv-loop : tie.InvT-loop
-Inv-loop side sender book debits marks₀ tif words₀ k₀ marks words k =
-    (marks ≡ marksBefore (judging side sender book debits tif) marks₀ k)
-    × (words ≡ tableBelow k (wordAt (judging side sender book debits tif) marks₀) ++ drop k words₀)
+Inv-loop side sender book debits marks₀ tif tst heads prev words₀ k₀ marks words k =
+    (marks ≡ marksBefore (judging side sender book debits tif tst) marks₀ k)
+    × (words ≡ tableBelow k (wordAt (judging side sender book debits tif tst) marks₀) ++ drop k words₀)
     × (k ≤ length words₀)
     × (length words ≡ length words₀)
     × (length marks ≡ length marks₀)
 
 abbrev μ-loop : tie.MeasureT-loop
-μ-loop side sender book debits marks₀ tif words₀ k₀ marks words k = length words₀ - k
+μ-loop side sender book debits marks₀ tif tst heads prev words₀ k₀ marks words k = length words₀ - k
 
 loop-holds : tie.Need-loop-holds Inv-loop μ-loop
 loop-holds c =
-    (sym (before-zero _ _), ap (λ (l : List ℕ). l ++ c .before .before .before .before .before .before .args .words .now) (sym (table-zero _)), search needs, refl, refl)
+    (sym (before-zero _ _), ap (λ (l : List ℕ). l ++ c .before .before .before .before .before .before .before .args .words .now) (sym (table-zero _)), search needs, refl, refl)
 
 abbrev start : tie.At-loop Inv-loop μ-loop → tie.Start Inv-loop μ-loop
-start l = l .before .before .before .before .before .before .before
+start l = l .before .before .before .before .before .before .before .before
 
 judge-next-requires : tie.Need-judge-next-requires Inv-loop μ-loop
 judge-next-requires c κs =
     let l = c .before .before .before in
-    let p = start l .pre in
-    (record { booked = p .booked; owed = omega (arith, p .owed); few = omega (arith, p .few); lined = omega (arith, p .lined) }, omega arith)
+    let p = start l .pre .0 in
+    (record { booked = p .booked; owed = omega (arith, p .owed); few = omega (arith, p .few); lined = omega (arith, p .lined) }, omega arith, start l .pre .1)
 
 add-k : tie.Need-add-k Inv-loop μ-loop
 add-k c = search needs
@@ -49,8 +49,8 @@ loop-again c =
     let a = start l .args in
     let g = c .before .before .before .before .judge-next in
     let t =
-    turn (judging (a .side) (a .sender .now) (a .book .now) (a .debits .now) (a .tif .now)) (a .marks .now) (a .words .now) (l .loop .marks) (l .loop .words)
-    (g .last .1 .1 .1 .1 .0) (g .last .1 .1 .1 .1 .1 .1 .0) (l .loop .k) (omega arith) (l .loop .inv .0) (l .loop .inv .1) (g .ensures) in
+    turn (judging (a .side) (a .sender .now) (a .book .now) (a .debits .now) (a .tif .now) (a .tst .now)) (a .marks .now) (a .words .now) (l .loop .marks) (l .loop .words)
+    (g .last .1 .1 .1 .1 .0) (g .last .1 .1 .1 .1 .1 .1 .1 .1 .1 .0) (l .loop .k) (omega arith) (l .loop .inv .0) (l .loop .inv .1) (g .ensures) in
     (t .0, t .1, omega arith, search needs, search needs)
 
 same-length : tie.Need-same-length Inv-loop μ-loop
@@ -69,8 +69,8 @@ returns c =
       worded = l .loop .inv .1 ∙ rw (e, drop-length) (append-nil _);
     }
 
-pub judge-lines-spec : {M : Type 1} → statement M
-judge-lines-spec =
+pub judge-each-spec : {M : Type 1} → statement M
+judge-each-spec =
     tie.close
     (tie.spec
     Inv-loop

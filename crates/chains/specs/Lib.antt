@@ -1,0 +1,9 @@
+pub mod Last
+pub mod LastLaws
+pub mod Hash
+pub mod HashLaws
+pub mod Index
+pub mod IndexLaws
+pub mod Chain
+pub mod ChainLaws
+pub mod MemberLaws

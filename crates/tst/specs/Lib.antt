@@ -1,0 +1,5 @@
+pub mod Columns
+pub mod Form
+pub mod FormLaws
+pub mod Stations
+pub mod StationsLaws
