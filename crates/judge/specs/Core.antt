@@ -2,7 +2,7 @@
 use mathlib.Core.Path.{_≡_}
 use mathlib.Core.Bool.{true, cond}
 use mathlib.Core.List.{List, []}
-use Prim.Native.Nat.{ℕ, _*_, _≤_, _<_}
+use Prim.Native.Nat.{ℕ, _≤_, _<_}
 use lib.ListN.{length, take}
 use Rattle.lines.specs.Rows.{mostLines}
 use Rattle.lines.specs.Splice.{splice}

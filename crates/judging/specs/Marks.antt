@@ -36,7 +36,8 @@ debitOf NotCovered = Taken.NoDebit
 debitOf NoDebit = Taken.NoDebit
 debitOf UnknownStation = Taken.NoDebit
 
-refusal-none : (v : Verdict) → 0 < verdictNumber v → debitOf v ≡ Taken.NoDebit
+-- a refusal credits none
+pub refusal-none : (v : Verdict) → 0 < verdictNumber v → debitOf v ≡ Taken.NoDebit
 refusal-none (Covered place) h = absurd (omega arith)
 refusal-none (Credits debit) h = absurd (omega arith)
 refusal-none WrongType h = refl

@@ -1,6 +1,6 @@
 -- What demand 3 rests on for a whole file: the verdict on a line says whether it takes a debit, and which; the marks follow. Assumes nothing.
 use mathlib.Core.Path.{_≡_, refl, sym, ap, _∙_}
-use mathlib.Core.Bool.{Bool, true, false, not, _&&_, cond, true≢false, false≢true}
+use mathlib.Core.Bool.{Bool, true, false, not, _&&_, true≢false, false≢true}
 use mathlib.Core.List.{List}
 use Prim.Native.Nat.{ℕ, zero, suc, _+_, _≤_, _<_}
 use native.Mathlib.Omega.{arith}
@@ -10,7 +10,6 @@ use lib.Dec.{eqb}
 use borrow.Author.Tests.{eqb-true, eqb-false}
 use Rattle.lines.specs.BelowLaws.{below-suc}
 use Rattle.lines.specs.BoolLaws.{and-left, and-right}
-use Rattle.lines.specs.FirstOf.{firstOf}
 use Rattle.tif.specs.Body.{lineAt}
 use Rattle.tif.specs.declared.side.Side.{Side}
 use Rattle.tif.specs.declared.side.Side.the-variants.{Credit, Debit, Neither}
@@ -22,14 +21,15 @@ use Rattle.debits.specs.CreditsLaws.{Accepted, accepted-is, skipped-is, unmarke
 use Rattle.debits.specs.Taking.{unmarked, placeTaken, tookDebit}
 use Rattle.debits.specs.TakingLaws.{taken-some}
 use Rattle.debits.specs.declared.taking.Taken.{Taken}
-use Rattle.verdicts.specs.LineTests.{isLawfulType, fieldsInForm, isFromSender, isKnownVehicle, platesInForm, testLine, passes}
+use Rattle.verdicts.specs.LineTests.{testLine, passes}
+use Rattle.verdicts.specs.LineTestsLaws.{fails-each}
 use Rattle.verdicts.specs.Verdict.{verdictNumber}
 use Rattle.verdicts.specs.declared.line_tests.LineTest.{LineTest}
 use Rattle.verdicts.specs.declared.line_tests.LineTest.the-variants.{Fails, Passes}
 use Rattle.verdicts.specs.declared.verdict.Verdict.{Verdict}
-use Rattle.verdicts.specs.declared.verdict.Verdict.the-variants.{Covered, Credits, WrongType, FieldOutOfForm, OtherActor, UnknownVehicle, PlateOutOfForm, RepeatedLine, NotCovered, NoDebit, UnknownStation}
+use Rattle.verdicts.specs.declared.verdict.Verdict.the-variants.{Credits, WrongType, FieldOutOfForm, OtherActor, UnknownVehicle, PlateOutOfForm, RepeatedLine, NotCovered, NoDebit, UnknownStation}
 use Rattle.judging.specs.Judging.{Judging, isCreditFile, repeatedAt, coverOn, creditOf, debitVerdict, passedVerdict, takenOn, knownOn, testOn, reachesAt, marksBefore, verdictAt}
-use Rattle.judging.specs.Marks.{debitOf}
+use Rattle.judging.specs.Marks.{debitOf, refusal-none}
 use Rattle.judging.specs.StepLaws.{passed-credit, passed-debit, passed-neither, fails-verdict, passes-verdict, passes-reaches}
 
 -- ---- the verdict on a line that does not reach L8: neither a credit nor L8
@@ -38,20 +38,7 @@ record Apart (v : Verdict) : Type 0 where
   pub other : v ≡ NoDebit → ⊥
 
 apart-numbered : (v : Verdict) → 0 < verdictNumber v → (verdictNumber v ≡ 8 → ⊥) → Apart v
-apart-numbered v h l = record { none = go v h; other = λ e. l (ap verdictNumber e) }
-  where
-    go : (w : Verdict) → 0 < verdictNumber w → debitOf w ≡ Taken.NoDebit
-    go (Covered place) p = absurd (omega arith)
-    go (Credits debit) p = absurd (omega arith)
-    go WrongType p = refl
-    go FieldOutOfForm p = refl
-    go OtherActor p = refl
-    go UnknownVehicle p = refl
-    go PlateOutOfForm p = refl
-    go RepeatedLine p = refl
-    go NotCovered p = refl
-    go NoDebit p = refl
-    go UnknownStation p = refl
+apart-numbered v h l = record { none = refusal-none v h; other = λ e. l (ap verdictNumber e) }
 
 apart-debit : (repeated : Bool) (cover : Cover) → Apart (debitVerdict repeated cover)
 apart-debit true cover = apart-numbered RepeatedLine (omega arith) (omega arith)
@@ -60,23 +47,10 @@ apart-debit false Nothing = apart-numbered NotCovered (omega arith) (omega arith
 
 -- what L1 to L5 and L9 refuse
 apart-test : (side : Side) (sender : List ℕ) (known : Bool) (line : List ℕ) (v : Verdict) → testLine side sender known line ≡ Fails v → Apart v
-unfolding testLine firstOf
 apart-test side sender known line v e =
-    go (not (isLawfulType side line)) (not (fieldsInForm line)) (not (isFromSender sender line)) (not known) (not (isKnownVehicle line)) (not (platesInForm line)) e
-  where
-    same : (w : Verdict) → 0 < verdictNumber w → (verdictNumber w ≡ 8 → ⊥) → Fails w ≡ Fails v → Apart v
-    same w h l p = let q : w ≡ v = cc in rw q at (apart-numbered w h l)
-
-    go : (a b c u d f : Bool)
-        → cond a (Fails WrongType) (cond b (Fails FieldOutOfForm) (cond c (Fails OtherActor) (cond u (Fails UnknownStation) (cond d (Fails UnknownVehicle) (cond f (Fails PlateOutOfForm) Passes))))) ≡ Fails v
-        → Apart v
-    go true b c u d f p = same WrongType (omega arith) (omega arith) p
-    go false true c u d f p = same FieldOutOfForm (omega arith) (omega arith) p
-    go false false true u d f p = same OtherActor (omega arith) (omega arith) p
-    go false false false true d f p = same UnknownStation (omega arith) (omega arith) p
-    go false false false false true f p = same UnknownVehicle (omega arith) (omega arith) p
-    go false false false false false true p = same PlateOutOfForm (omega arith) (omega arith) p
-    go false false false false false false p = let z : _≡_ {A = ℕ} 0 1 = cc in absurd (omega arith)
+    fails-each Apart (apart-numbered WrongType (omega arith) (omega arith)) (apart-numbered FieldOutOfForm (omega arith) (omega arith)) (apart-numbered OtherActor (omega arith) (omega arith))
+    (apart-numbered UnknownVehicle (omega arith) (omega arith)) (apart-numbered PlateOutOfForm (omega arith) (omega arith)) side sender known line v
+    (λ k. apart-numbered UnknownStation (omega arith) (omega arith)) e
 
 credit-only : (side : Side) → isCreditFile side ≡ true → side ≡ Credit
 credit-only Credit e = refl

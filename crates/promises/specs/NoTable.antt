@@ -1,8 +1,8 @@
 -- An empty station table changes nothing. Where none is lent a call is checked by E1 to E6 alone, its card has eight codes, and each of its lines is judged by
 -- L1 to L8 alone: in the lists of tests the row of E8 and the row of L9 may be left out. All else that a call gives is defined by these with no word of a table.
 -- Assumes nothing.
-use mathlib.Core.Path.{_≡_, refl, ap}
-use mathlib.Core.Bool.{Bool, true, false, _&&_}
+use mathlib.Core.Path.{_≡_}
+use mathlib.Core.Bool.{true, false, _&&_}
 use mathlib.Core.List.{List, [], _++_}
 use Prim.Native.Nat.{ℕ, _+_, _<_}
 use lib.ListN.{length, take, drop}
@@ -18,7 +18,7 @@ use Rattle.tst.specs.Stations.{isKnownStation}
 use Rattle.verdicts.specs.LineTests.{lineRows, failing, testLine, passes}
 use Rattle.verdicts.specs.declared.line_tests.LineTest.the-variants.{Passes}
 use Rattle.verdicts.specs.Verdict.{verdictNumber}
-use Rattle.judging.specs.Judging.{isCreditFile, coverOn, acceptedBy, takenOn, knownOn, testOn, allRows, verdictOn, reachesAt}
+use Rattle.judging.specs.Judging.{isCreditFile, coverOn, acceptedBy, takenOn, knownOn, allRows, verdictOn, reachesAt}
 use Rattle.judging.specs.WordLaws.{unlent-number}
 use Rattle.answers.specs.Card.{isCard}
 use Rattle.answers.specs.Fault.{lentRows, checkLent, callRows, checkCall}

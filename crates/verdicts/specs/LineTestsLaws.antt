@@ -1,6 +1,6 @@
 -- What the tests of a line by itself say of a longer list of tests that begins with them. Assumes nothing.
 use mathlib.Core.Path.{_≡_, refl}
-use mathlib.Core.Bool.{Bool, true, false, not, cond}
+use mathlib.Core.Bool.{Bool, true, false, not, cond, true≢false}
 use mathlib.Core.List.{List, [], _∷_, _++_}
 use Prim.Native.Nat.{ℕ, _<_}
 use native.Mathlib.Omega.{arith}
@@ -27,41 +27,33 @@ module _ (rest : List (Row Verdict)) (other : Verdict) where
   passes-on ((true ⇒ w) ∷ rows) e = let z : _≡_ {A = ℕ} 0 1 = cc in absurd (omega arith)
   passes-on ((false ⇒ w) ∷ rows) e = passes-on rows e
 
+-- what fails is one of L1 to L5, or L9 where the station is not known: what holds of each of these holds of it
+module _ (P : Verdict → Type 0) (type : P WrongType) (form : P FieldOutOfForm) (actor : P OtherActor) (vehicle : P UnknownVehicle) (plate : P PlateOutOfForm) where
+  pub fails-each : (side : Side) (sender : List ℕ) (known : Bool) (line : List ℕ) (v : Verdict) → (known ≡ false → P UnknownStation) → testLine side sender known line ≡ Fails v → P v
+  unfolding testLine firstOf
+  fails-each side sender known line v station e =
+      go (not (isLawfulType side line)) (not (fieldsInForm line)) (not (isFromSender sender line)) known refl (not (isKnownVehicle line)) (not (platesInForm line)) e
+    where
+      told : (w : Verdict) → P w → Fails w ≡ Fails v → P v
+      told w h p = let q : w ≡ v = cc in rw q at h
+
+      go : (a b c u : Bool) → known ≡ u → (d f : Bool)
+          → cond a (Fails WrongType) (cond b (Fails FieldOutOfForm) (cond c (Fails OtherActor) (cond (not u) (Fails UnknownStation) (cond d (Fails UnknownVehicle) (cond f (Fails PlateOutOfForm) Passes))))) ≡ Fails v
+          → P v
+      go true b c u k d f p = told WrongType type p
+      go false true c u k d f p = told FieldOutOfForm form p
+      go false false true u k d f p = told OtherActor actor p
+      go false false false false k d f p = told UnknownStation (station k) p
+      go false false false true k true f p = told UnknownVehicle vehicle p
+      go false false false true k false true p = told PlateOutOfForm plate p
+      go false false false true k false false p = let z : _≡_ {A = ℕ} 0 1 = cc in absurd (omega arith)
+
 -- what fails is refused
 pub line-refuses : (side : Side) (sender : List ℕ) (known : Bool) (line : List ℕ) (v : Verdict) → testLine side sender known line ≡ Fails v → 0 < verdictNumber v
-unfolding testLine firstOf
 line-refuses side sender known line v e =
-    go (not (isLawfulType side line)) (not (fieldsInForm line)) (not (isFromSender sender line)) (not known) (not (isKnownVehicle line)) (not (platesInForm line)) e
-  where
-    -- a verdict with the number of another that is no acceptance
-    numbered : (w : Verdict) → 0 < verdictNumber w → Fails w ≡ Fails v → 0 < verdictNumber v
-    numbered w h p = let q : w ≡ v = cc in rw q at h
-
-    go : (a b c u d f : Bool)
-        → cond a (Fails WrongType) (cond b (Fails FieldOutOfForm) (cond c (Fails OtherActor) (cond u (Fails UnknownStation) (cond d (Fails UnknownVehicle) (cond f (Fails PlateOutOfForm) Passes))))) ≡ Fails v
-        → 0 < verdictNumber v
-    go true b c u d f p = numbered WrongType (omega arith) p
-    go false true c u d f p = numbered FieldOutOfForm (omega arith) p
-    go false false true u d f p = numbered OtherActor (omega arith) p
-    go false false false true d f p = numbered UnknownStation (omega arith) p
-    go false false false false true f p = numbered UnknownVehicle (omega arith) p
-    go false false false false false true p = numbered PlateOutOfForm (omega arith) p
-    go false false false false false false p = let z : _≡_ {A = ℕ} 0 1 = cc in absurd (omega arith)
+    fails-each (λ (w : Verdict). 0 < verdictNumber w) (omega arith) (omega arith) (omega arith) (omega arith) (omega arith) side sender known line v (λ k. omega arith) e
 
 -- where the station is known, what fails is one of L1 to L5
 pub known-number : (side : Side) (sender line : List ℕ) (v : Verdict) → testLine side sender true line ≡ Fails v → verdictNumber v < 6
-unfolding testLine firstOf
-known-number side sender line v e = go (not (isLawfulType side line)) (not (fieldsInForm line)) (not (isFromSender sender line)) (not (isKnownVehicle line)) (not (platesInForm line)) e
-  where
-    numbered : (w : Verdict) → verdictNumber w < 6 → Fails w ≡ Fails v → verdictNumber v < 6
-    numbered w h p = let q : w ≡ v = cc in rw q at h
-
-    go : (a b c d f : Bool)
-        → cond a (Fails WrongType) (cond b (Fails FieldOutOfForm) (cond c (Fails OtherActor) (cond d (Fails UnknownVehicle) (cond f (Fails PlateOutOfForm) Passes)))) ≡ Fails v
-        → verdictNumber v < 6
-    go true b c d f p = numbered WrongType (omega arith) p
-    go false true c d f p = numbered FieldOutOfForm (omega arith) p
-    go false false true d f p = numbered OtherActor (omega arith) p
-    go false false false true f p = numbered UnknownVehicle (omega arith) p
-    go false false false false true p = numbered PlateOutOfForm (omega arith) p
-    go false false false false false p = let z : _≡_ {A = ℕ} 0 1 = cc in absurd (omega arith)
+known-number side sender line v e =
+    fails-each (λ (w : Verdict). verdictNumber w < 6) (omega arith) (omega arith) (omega arith) (omega arith) (omega arith) side sender true line v (λ k. absurd (true≢false k)) e
