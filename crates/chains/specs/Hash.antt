@@ -24,7 +24,7 @@ mixSpans spans line (suc m) = mixText (mixSpans spans line m) (spanOf spans line
 
 -- mixed once more so that the last byte counts, the upper 14 of 32 bits
 abbrev pub folded : ℕ → ℕ
-folded h = mixed h 0 / 262144 % 16384
+folded h = mixed h 0 / 1048576 % 4096
 
 unfoldable pub hashOf : List ℕ → List ℕ → ℕ
 hashOf spans line = folded (mixSpans spans line (spanCount spans))
@@ -37,4 +37,4 @@ pub record Mixed (h : ℕ) (text : List ℕ) (r : ℕ) : Type 0 where
 -- r is the hash of the line
 pub record Hashed (spans line : List ℕ) (r : ℕ) : Type 0 where
   pub value : r ≡ hashOf spans line
-  pub small : r < 16384
+  pub small : r < 4096

@@ -28,9 +28,9 @@ pub spans-suc : (spans line : List ℕ) (m : ℕ) → mixSpans spans line (m + 1
 unfolding mixSpans
 spans-suc spans line m = rw (add-one m)
 
-pub hash-small : (spans line : List ℕ) → hashOf spans line < 16384
+pub hash-small : (spans line : List ℕ) → hashOf spans line < 4096
 unfolding hashOf
-hash-small spans line = mod-lt (mixed (mixSpans spans line (spanCount spans)) 0 / 262144) (zero-lt-suc 16383)
+hash-small spans line = mod-lt (mixed (mixSpans spans line (spanCount spans)) 0 / 1048576) (zero-lt-suc 4095)
 
 -- ---- agreement
 module _ (ss a ts b : List ℕ) (agree : agreeAcross ss a ts b ≡ true) where

@@ -63,7 +63,7 @@ pub record Linked (l : Layout) (file spans : List ℕ) (k : ℕ) (prev : List �
 
 -- heads[h] is the last of the first k lines with the hash h, and these are linked
 pub record Indexed (l : Layout) (file spans : List ℕ) (k : ℕ) (heads prev : List ℕ) : Type 0 where
-  pub last : (h : ℕ) → h < 16384 → getD heads h 0 ≡ lastBelow k (hashIs l file spans h)
+  pub last : (h : ℕ) → h < 4096 → getD heads h 0 ≡ lastBelow k (hashIs l file spans h)
   pub linked : Linked l file spans k prev
 
 -- line k put in front of its chain

@@ -50,5 +50,5 @@ pub fn hash_line(line: &[u8], spans: &[usize]) -> usize
         m += 1;
     }
     // The last byte reaches the upper bits only when it is mixed once more.
-    mix(h, 0) / 262144 % 16384
+    mix(h, 0) / 1048576 % 4096
 }

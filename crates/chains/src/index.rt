@@ -7,11 +7,11 @@ ghost use lib.ListN.{length, getD};
 ghost use Rattle.chains.specs.Index.{Ruled, Indexed, Entered};
 
 fn clear(heads: &mut [u16])
-    requires { ⌜ length (now heads) ≡ 16384 ⌝ }
-    ensures { λ _. ⌜ ((h : ℕ) → h < 16384 → getD (now (heads .exit)) h 0 ≡ 0) ⌝ }
+    requires { ⌜ length (now heads) ≡ 4096 ⌝ }
+    ensures { λ _. ⌜ ((h : ℕ) → h < 4096 → getD (now (heads .exit)) h 0 ≡ 0) ⌝ }
 {
     let mut i = 0;
-    while i < 16384 {
+    while i < 4096 {
         heads[i] = 0;
         i += 1;
     }
@@ -27,7 +27,7 @@ fn enter(
     prev: &mut [u16],
 )
     requires { ⌜ Ruled layout (now file) (now spans) (k + 1) ⌝ }
-    requires { ⌜ (length (now heads) ≡ 16384) × (length (now prev) ≡ 9999) ⌝ }
+    requires { ⌜ (length (now heads) ≡ 4096) × (length (now prev) ≡ 9999) ⌝ }
     ensures { λ _. ⌜ Entered layout (now (file .entry)) (now (spans .entry)) k (now (heads .entry)) (now (prev .entry)) (now (heads .exit)) (now (prev .exit)) ⌝ }
 {
     let h = hash_line(line_of(layout, file, k), spans);
@@ -45,7 +45,7 @@ fn index_into(
     prev: &mut [u16],
 )
     requires { ⌜ Ruled layout (now file) (now spans) n ⌝ }
-    requires { ⌜ (length (now heads) ≡ 16384) × (length (now prev) ≡ 9999) ⌝ }
+    requires { ⌜ (length (now heads) ≡ 4096) × (length (now prev) ≡ 9999) ⌝ }
     ensures { λ _. ⌜ Indexed layout (now (file .entry)) (now (spans .entry)) n (now (heads .exit)) (now (prev .exit)) ⌝ }
 {
     clear(heads);
@@ -62,7 +62,7 @@ pub fn index_lines(
     file: &[u8],
     spans: &[usize],
     n: usize,
-    heads: &mut [u16; 16384],
+    heads: &mut [u16; 4096],
     prev: &mut [u16; 9999],
 )
     requires { ⌜ Ruled layout (now file) (now spans) n ⌝ }

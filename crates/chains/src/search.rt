@@ -45,7 +45,7 @@ pub fn is_member(
     file: &[u8],
     spans: &[usize],
     n: usize,
-    heads: &[u16; 16384],
+    heads: &[u16; 4096],
     prev: &[u16; 9999],
     ts: &[usize],
     other: &[u8],
@@ -97,7 +97,7 @@ pub fn all_different(layout: Layout, file: &[u8], spans: &[usize], n: usize) -> 
     requires { ⌜ Ruled layout (now file) (now spans) n ⌝ }
     ensures { λ r. ⌜ r ≡ allDifferent layout (now (file .entry)) (now (spans .entry)) n ⌝ }
 {
-    let mut heads = [0u16; 16384];
+    let mut heads = [0u16; 4096];
     let mut prev = [0u16; 9999];
     index_lines(layout, file, spans, n, &mut heads, &mut prev);
     none_repeated(layout, file, spans, n, &prev)

@@ -20,7 +20,7 @@ fn judge_next(
     marks: &mut [u8],
     tif: &[u8],
     tst: &[u8],
-    heads: &[u16; 16384],
+    heads: &[u16; 4096],
     prev: &[u16; 9999],
     words: &mut [u64],
     k: usize,
@@ -41,7 +41,7 @@ fn judge_each(
     marks: &mut [u8],
     tif: &[u8],
     tst: &[u8],
-    heads: &[u16; 16384],
+    heads: &[u16; 4096],
     prev: &[u16; 9999],
     words: &mut [u64],
 )
@@ -81,7 +81,7 @@ pub fn judge_lines(
     requires { ⌜ Given (now book) (now debits) (now marks) (now tif) (length (now words)) × (tableSound (now tst) ≡ true) ⌝ }
     ensures { λ _. ⌜ AllJudged (judging side (now (sender .entry)) (now (book .entry)) (now (debits .entry)) (now (tif .entry)) (now (tst .entry))) (length (now (words .entry))) (now (marks .entry)) (now (marks .exit)) (now (words .exit)) ⌝ }
 {
-    let mut heads = [0u16; 16384];
+    let mut heads = [0u16; 4096];
     let mut prev = [0u16; 9999];
     index_stations(tst, &mut heads, &mut prev);
     judge_each(

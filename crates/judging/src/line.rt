@@ -120,7 +120,7 @@ pub fn judge_line(
     marks: &mut [u8],
     tif: &[u8],
     tst: &[u8],
-    heads: &[u16; 16384],
+    heads: &[u16; 4096],
     prev: &[u16; 9999],
     k: usize,
 ) -> Verdict

@@ -24,7 +24,7 @@ fn station_count(tst: &[u8]) -> usize
 }
 
 // Chains the lines of a lent table by their triples. Where none is lent there is nothing to index.
-pub fn index_stations(tst: &[u8], heads: &mut [u16; 16384], prev: &mut [u16; 9999])
+pub fn index_stations(tst: &[u8], heads: &mut [u16; 4096], prev: &mut [u16; 9999])
     requires { ⌜ tableSound (now tst) ≡ true ⌝ }
     ensures { λ _. ⌜ StationsIndexed (now (tst .entry)) (now (heads .exit)) (now (prev .exit)) ⌝ }
 {
@@ -35,7 +35,7 @@ pub fn index_stations(tst: &[u8], heads: &mut [u16; 16384], prev: &mut [u16; 999
 }
 
 // Whether no table is lent, or one of its lines has the exit actor, station and lane of the TIF's line (L9).
-pub fn is_known_station(tst: &[u8], heads: &[u16; 16384], prev: &[u16; 9999], line: &[u8]) -> bool
+pub fn is_known_station(tst: &[u8], heads: &[u16; 4096], prev: &[u16; 9999], line: &[u8]) -> bool
     requires { ⌜ StationsIndexed (now tst) (now heads) (now prev) × (length (now line) ≡ lineWidth) ⌝ }
     ensures { λ r. ⌜ r ≡ isKnownStation (now (tst .entry)) (now (line .entry)) ⌝ }
 {

@@ -79,7 +79,7 @@ unfolding hashOf
 returns c =
     let l = c .before .before in
     let e : l .loop .m ≡ spanCount (start l .args .spans .now) = omega arith in
-    record { value = ap (λ (x : ℕ). x / 262144 % 16384) (c .mix .ensures .0) ∙ ap folded (rw e at (l .loop .inv .0)); small = omega arith }
+    record { value = ap (λ (x : ℕ). x / 1048576 % 4096) (c .mix .ensures .0) ∙ ap folded (rw e at (l .loop .inv .0)); small = omega arith }
 
 pub hash-line-spec : {M : Type 1} → statement M
 hash-line-spec =

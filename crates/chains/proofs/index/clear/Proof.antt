@@ -8,10 +8,10 @@ use Rattle.chains.proofs.index.clear.Statement.{statement}
 use Rattle.chains.proofs.index.clear.Tie as tie
 
 abbrev Inv-loop : tie.InvT-loop
-Inv-loop heads₀ i₀ heads i = ((h : ℕ) → h < i → getD heads h 0 ≡ 0) × (i ≤ 16384) × (length heads ≡ 16384)
+Inv-loop heads₀ i₀ heads i = ((h : ℕ) → h < i → getD heads h 0 ≡ 0) × (i ≤ 4096) × (length heads ≡ 4096)
 
 abbrev μ-loop : tie.MeasureT-loop
-μ-loop heads₀ i₀ heads i = 16384 - i
+μ-loop heads₀ i₀ heads i = 4096 - i
 
 loop-holds : tie.Need-loop-holds Inv-loop μ-loop
 loop-holds c = ((λ h l. absurd (omega arith)), omega arith, search needs)

@@ -9,7 +9,7 @@ use Rattle.chains.proofs.index.index_into.Statement.{statement}
 use Rattle.chains.proofs.index.index_into.Tie as tie
 
 abbrev Inv-loop : tie.InvT-loop
-Inv-loop layout file spans n heads₀ prev₀ k₀ heads prev k = Indexed layout file spans k heads prev × (k ≤ n) × (length heads ≡ 16384) × (length prev ≡ 9999)
+Inv-loop layout file spans n heads₀ prev₀ k₀ heads prev k = Indexed layout file spans k heads prev × (k ≤ n) × (length heads ≡ 4096) × (length prev ≡ 9999)
 
 abbrev μ-loop : tie.MeasureT-loop
 μ-loop layout file spans n heads₀ prev₀ k₀ heads prev k = n - k
