@@ -1,4 +1,4 @@
--- The hash of a line: the texts of its spans, byte after byte, mixed into 32 bits, of which the upper 14 are taken. Assumes nothing.
+-- The hash of a line: the texts of its spans, byte after byte, mixed into 32 bits, of which the upper 12 are taken. Assumes nothing.
 use mathlib.Core.Path.{_≡_}
 use mathlib.Core.List.{List}
 use Prim.Native.Nat.{ℕ, zero, suc, _+_, _*_, _/_, _%_, _<_}
@@ -22,7 +22,7 @@ unfoldable pub mixSpans : List ℕ → List ℕ → ℕ → ℕ
 mixSpans spans line zero = 0
 mixSpans spans line (suc m) = mixText (mixSpans spans line m) (spanOf spans line m)
 
--- mixed once more so that the last byte counts, the upper 14 of 32 bits
+-- mixed once more so that the last byte counts, the upper 12 of 32 bits
 abbrev pub folded : ℕ → ℕ
 folded h = mixed h 0 / 1048576 % 4096
 
