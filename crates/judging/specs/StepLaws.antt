@@ -42,7 +42,7 @@ pub repeat-spans-in : (size : ℕ) → size ≡ lineWidth → spansIn size repea
 unfolding spansIn spanIn allBelow
 repeat-spans-in size e = rw e
 
--- ---- a line that has passed L1 to L5, by the side of its file
+-- ---- a line that has passed L1 to L5 and L9, by the side of its file
 module _ (repeated : Bool) (cover : Cover) (took : Taken) where
   pub passed-debit : passedVerdict Debit repeated cover took ≡ debitVerdict repeated cover
   unfolding passedVerdict firstOf
