@@ -2,12 +2,3 @@ pub mod Layout
 pub mod LayoutLaws
 pub mod Form
 pub mod FormLaws
-pub mod OrderLaws
-pub mod Cover
-pub mod CoverLaws
-pub mod Lease
-pub mod LeaseLaws
-pub mod Worked
-pub mod FirstCover
-pub mod FirstCoverLaws
-pub mod NoEnd

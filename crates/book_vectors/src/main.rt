@@ -1,8 +1,8 @@
 // Runs the form of agreement books and what covers a passage over cases from standard input, and prints one line for each.
 use book::BookForm;
-use book::Cover;
 use book::check_book;
-use book::cover_at;
+use cover::Cover;
+use cover::cover_at;
 use frames::Kind;
 use frames::print_bytes;
 use frames::print_line_feed;

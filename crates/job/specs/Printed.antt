@@ -2,21 +2,15 @@
 use mathlib.Core.Path.{_≡_}
 use mathlib.Core.Bool.{cond}
 use mathlib.Core.List.{List, [], _∷_, _++_}
-use Prim.Native.Nat.{ℕ, zero, suc, _/_}
+use Prim.Native.Nat.{ℕ}
 use lib.ListN.{replicate}
-use lib.Dec.{ltb}
-use Rattle.lines.specs.Number.{digitsOf}
 use Rattle.tif.specs.Body.{grossOf}
-use Rattle.tif.specs.Side.{sideText}
 use Rattle.verdicts.specs.declared.record.Record.{Record}
 use Rattle.verdicts.specs.declared.verdict.Verdict.the-variants.{Credits}
-use Rattle.answers.specs.Answer.{answerCode, faultNumber}
-use Rattle.judge.specs.Call.{Call, callOf, answerOf, marksOf, outOf}
 use Rattle.answers.specs.declared.answer.Answer.{Answer}
-use Rattle.answers.specs.declared.answer.Answer.the-variants.{Refused, Answered}
-use Rattle.answers.specs.declared.answer.CallFault.{CallFault}
-use Rattle.answers.specs.declared.answer.Summary.{Summary}
-use Rattle.job.specs.Job.{isJob, bodyOf}
+use Rattle.judge.specs.Call.{Call, callOf, answerOf, marksOf, outOf}
+use Rattle.job_form.specs.Form.{isJob, bodyOf}
+use Rattle.job_line.specs.Line.{answerText}
 
 -- ---- what is lent
 abbrev pub recordsLent : ℕ
@@ -29,44 +23,7 @@ outputLent = replicate 65536 0
 abbrev pub callOfJob : List ℕ → Call
 callOfJob job = callOf (bodyOf job 0) (bodyOf job 1) (bodyOf job 2) (bodyOf job 3) (bodyOf job 4) (bodyOf job 5) (bodyOf job 6) (bodyOf job 7) [] recordsLent outputLent
 
--- ---- numbers
--- how many decimal digits a number has, where they are not more than `most`
-unfoldable pub digitCount : ℕ → ℕ → ℕ
-digitCount zero v = 0
-digitCount (suc most) v = cond (ltb 9 v) (suc (digitCount most (v / 10))) 1
-
--- a number below 2^64 with no zeros in front
-unfoldable pub decimal : ℕ → List ℕ
-decimal v = digitsOf (digitCount 20 v) v
-
--- the same behind a blank
-unfoldable pub afterBlank : ℕ → List ℕ
-afterBlank v = (32 ∷ []) ++ decimal v
-
 -- ---- the line
--- "E" joined to its number
-unfoldable pub faultText : CallFault → List ℕ
-faultText fault = (69 ∷ []) ++ decimal (faultNumber fault)
-
--- acceptance and side
-unfoldable pub headText : Summary → List ℕ
-headText s = digitsOf 2 (answerCode (s .answer)) ++ (32 ∷ []) ++ sideText (s .side)
-
--- lines, accepted, refused
-unfoldable pub countsText : Summary → List ℕ
-countsText s = afterBlank (s .lines) ++ afterBlank (s .accepted) ++ afterBlank (s .refused)
-
--- total, accepted amount, refused amount
-unfoldable pub amountsText : Summary → List ℕ
-amountsText s = afterBlank (s .total .0) ++ afterBlank (s .«accepted_amount» .0) ++ afterBlank (s .«refused_amount» .0)
-
-unfoldable pub summaryText : Summary → List ℕ
-summaryText s = headText s ++ countsText s ++ amountsText s
-
-abbrev pub answerText : Answer → List ℕ
-answerText (Refused fault) = faultText fault
-answerText (Answered s) = summaryText s
-
 -- "J" for bytes that are no job
 unfoldable pub textOf : List ℕ → List ℕ
 textOf job = cond (isJob job) (answerText (answerOf (callOfJob job))) (74 ∷ [])

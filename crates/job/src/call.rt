@@ -1,5 +1,5 @@
-use crate::job::body_of;
 use answers::Answer;
+use job_form::body_of;
 use judge::judge;
 use lines::Gross;
 use lines::Net;
@@ -12,7 +12,7 @@ ghost use mathlib.Core.Path.{_≡_};
 ghost use Prim.Native.Nat.{_≤_};
 ghost use lib.ListN.{length};
 ghost use Rattle.judge.specs.Call.{callOf, answerOf};
-ghost use Rattle.job.specs.Job.{isJob};
+ghost use Rattle.job_form.specs.Form.{isJob};
 ghost use Rattle.job.specs.Printed.{recordsLent, outputLent, blankRecord, callOfJob, JudgedLent};
 
 // What a record holds before a line is written into it.

@@ -18,8 +18,8 @@ use Rattle.tif.specs.Body.{lineAt}
 use Rattle.tif.specs.Columns.{tifLayout}
 use Rattle.tif.specs.declared.side.Side.{Side}
 use Rattle.tif.specs.declared.side.Side.the-variants.{Credit, Debit, Neither}
-use Rattle.book.specs.declared.cover.Cover.{Cover}
-use Rattle.book.specs.declared.cover.Cover.the-variants.{At, Nothing}
+use Rattle.cover.specs.declared.cover.Cover.{Cover}
+use Rattle.cover.specs.declared.cover.Cover.the-variants.{At, Nothing}
 use Rattle.debits.specs.Credits.{marksAfter}
 use Rattle.debits.specs.Taking.{taken, marksThen}
 use Rattle.debits.specs.declared.taking.Taken.{Taken}

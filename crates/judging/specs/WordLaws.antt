@@ -13,13 +13,13 @@ use Rattle.tif.specs.declared.side.Side.{Side}
 use Rattle.tif.specs.declared.side.Side.the-variants.{Credit, Debit, Neither}
 use Rattle.tst.specs.Form.{isLent}
 use Rattle.tst.specs.Stations.{unlent-known}
-use Rattle.book.specs.Cover.{Asked, coveringPeriod, hasCover, coverIn, coverOf}
+use Rattle.cover.specs.Cover.{Asked, coveringPeriod, hasCover, coverIn, coverOf}
 use Rattle.book.specs.Form.{bookSound}
 use Rattle.book.specs.FormLaws.{whole-is}
 use Rattle.book.specs.Layout.{width, agreements, periodsAt, bodyPlace}
-use Rattle.book.specs.declared.cover.Cover.{Cover}
-use Rattle.book.specs.declared.cover.Cover.the-variants.{At, Nothing}
-use Rattle.book.specs.declared.cover.Place.{Place}
+use Rattle.cover.specs.declared.cover.Cover.{Cover}
+use Rattle.cover.specs.declared.cover.Cover.the-variants.{At, Nothing}
+use Rattle.cover.specs.declared.cover.Place.{Place}
 use Rattle.debits.specs.CreditsLaws.{after-length}
 use Rattle.debits.specs.TakingLaws.{taken-number}
 use Rattle.debits.specs.Taking.{taken}

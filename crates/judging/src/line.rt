@@ -1,5 +1,5 @@
-use book::Cover;
-use book::cover_at;
+use cover::Cover;
+use cover::cover_at;
 use debits::Taken;
 use debits::take_debit;
 use lines::agree_on;

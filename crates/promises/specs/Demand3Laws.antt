@@ -13,8 +13,8 @@ use Rattle.lines.specs.BoolLaws.{and-left, and-right}
 use Rattle.tif.specs.Body.{lineAt}
 use Rattle.tif.specs.declared.side.Side.{Side}
 use Rattle.tif.specs.declared.side.Side.the-variants.{Credit, Debit, Neither}
-use Rattle.book.specs.declared.cover.Cover.{Cover}
-use Rattle.book.specs.declared.cover.Cover.the-variants.{At, Nothing}
+use Rattle.cover.specs.declared.cover.Cover.{Cover}
+use Rattle.cover.specs.declared.cover.Cover.the-variants.{At, Nothing}
 use Rattle.debits.specs.Assignment.{Exactly}
 use Rattle.debits.specs.Credits.{marksAfter, takenAt, placeAt, creditAccepted, creditRefused}
 use Rattle.debits.specs.CreditsLaws.{Accepted, accepted-is, skipped-is, unmarked-earlier, after-length}

@@ -9,8 +9,8 @@ use Prim.Native.Nat.{ℕ, _+_, _≤_, _<_}
 use lib.ListN.{length, drop, set}
 use Rattle.lines.specs.Splice.{splice}
 use Rattle.book.specs.Layout.{width, agreements, bodyPlace}
-use Rattle.book.specs.Lease.{SameButLeases}
-use Rattle.book.specs.LeaseLaws.{same-sound}
+use Rattle.cover.specs.Lease.{SameButLeases}
+use Rattle.cover.specs.LeaseLaws.{same-sound}
 use Rattle.tic_text.specs.Text.{Tic, ticText}
 use Rattle.verdicts.specs.declared.record.Record.{Record}
 use Rattle.judging.specs.Judging.{verdictAt}

@@ -10,9 +10,9 @@ use Rattle.lines.specs.FirstOf.{firstOf}
 use Rattle.passage.specs.Passage.{pan, exitMoment, detectedPlate, detectedNation}
 use Rattle.tif.specs.Body.{lineAt}
 use Rattle.book.specs.Layout.{width, agreements, bodyPlace}
-use Rattle.book.specs.Lease.{SameButLeases}
-use Rattle.book.specs.LeaseLaws.{same-cover}
-use Rattle.book.specs.declared.cover.Cover.{Cover}
+use Rattle.cover.specs.Lease.{SameButLeases}
+use Rattle.cover.specs.LeaseLaws.{same-cover}
+use Rattle.cover.specs.declared.cover.Cover.{Cover}
 use Rattle.verdicts.specs.LineTests.{lineRows}
 use Rattle.verdicts.specs.Verdict.{wordOf}
 use Rattle.judging.specs.Judging.{Judging, judging, repeatedAt, coverOn, fileRows, acceptedBy, takenOn, knownOn, verdictOn, reachesAt, marksBefore, verdictAt, wordAt, wordsOf}

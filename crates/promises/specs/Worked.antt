@@ -19,10 +19,10 @@ use Rattle.tif.specs.Every.{every}
 use Rattle.tif.specs.Name.{isActor, isSequence, isFileStem, isName}
 use Rattle.tif.specs.Worked.{nameOf}
 use Rattle.book.specs.Layout.{width, agreements, panOf, bodyHead, periodsAt, periodOf, bodyPlace}
-use Rattle.book.specs.Cover.{inTime, leasedTo, periodCovers, coversAt, coveringPeriod, hasCover, panIs, agreementOf, coveringAgreement, coverIn, coverOf}
-use Rattle.book.specs.Worked.{book, pan, plate, nation}
-use Rattle.book.specs.declared.cover.Cover.{Cover}
-use Rattle.book.specs.declared.cover.Cover.the-variants.{At, Nothing}
+use Rattle.cover.specs.Cover.{inTime, leasedTo, periodCovers, coversAt, coveringPeriod, hasCover, panIs, agreementOf, coveringAgreement, coverIn, coverOf}
+use Rattle.cover.specs.Worked.{book, pan, plate, nation}
+use Rattle.cover.specs.declared.cover.Cover.{Cover}
+use Rattle.cover.specs.declared.cover.Cover.the-variants.{At, Nothing}
 use Rattle.debits.specs.Taking.{agrees, unmarked, freeFor, placeTaken, taken}
 use Rattle.debits.specs.Counting.{oneIf, countBelow}
 use Rattle.debits.specs.Credits.{marksAfter, takenAt, creditAccepted, creditRefused}

@@ -29,7 +29,7 @@ use Rattle.tif.specs.declared.acceptance.Whole.{Whole}
 use Rattle.tif.specs.declared.side.Side.the-variants.{Credit}
 use Rattle.book.specs.Layout.{agreements, bodyPlace}
 use Rattle.book.specs.Form.{entriesSound, bodiesSound, headSound, bookSound}
-use Rattle.book.specs.Cover.{coveringAgreement, agreementOf, coverIn, coverOf}
+use Rattle.cover.specs.Cover.{coveringAgreement, agreementOf, coverIn, coverOf}
 use Rattle.debits.specs.Form.{isDebitType, debitSound, debitSoundAt, linesSound, markSoundAt, marksSound, debitsSound}
 use Rattle.debits.specs.Taking.{agrees, unmarked, freeFor, placeTaken, taken}
 use Rattle.debits.specs.Credits.{marksAfter}

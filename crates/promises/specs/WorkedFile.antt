@@ -33,7 +33,7 @@ use Rattle.tif.specs.declared.acceptance.Whole.{Whole}
 use Rattle.tif.specs.declared.side.Side.the-variants.{Debit}
 use Rattle.book.specs.Layout.{agreements, panOf, offsetOf, bodyHead, periodsAt, periodOf, bodyEnd, bodyPlace}
 use Rattle.book.specs.Form.{endForm, periodForm, followsAt, periodSoundAt, periodsSound, bodySound as leaseSound, risesAt, entrySoundAt, entriesSound, agreementSound, agreementSoundAt, bodiesSound, headSound, bookSound}
-use Rattle.book.specs.Cover.{inTime, leasedTo, periodCovers, coversAt, coveringPeriod, hasCover, panIs, agreementOf, coveringAgreement, coverIn, coverOf}
+use Rattle.cover.specs.Cover.{inTime, leasedTo, periodCovers, coversAt, coveringPeriod, hasCover, panIs, agreementOf, coveringAgreement, coverIn, coverOf}
 use Rattle.debits.specs.Form.{linesSound, marksSound, debitsSound}
 use Rattle.debits.specs.Taking.{placeTaken, taken}
 use Rattle.debits.specs.Credits.{marksAfter}

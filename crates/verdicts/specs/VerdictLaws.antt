@@ -5,7 +5,7 @@ use native.Mathlib.Omega.{arith}
 use borrow.Author.Tests.{ne-eqb}
 use Rattle.lines.specs.FirstOf.{firstOf, past, none, picked}
 use Rattle.lines.specs.Tests.{tests}
-use Rattle.book.specs.declared.cover.Place.{Place}
+use Rattle.cover.specs.declared.cover.Place.{Place}
 use Rattle.verdicts.specs.Verdict.{verdictNumber, wordOf, wordNumber, wordFirst, wordSecond, acceptanceOf, verdictOf, Placed, InWord}
 use Rattle.verdicts.specs.declared.verdict.Verdict.{Verdict}
 use Rattle.verdicts.specs.declared.verdict.Verdict.the-variants.{Covered, Credits, WrongType, FieldOutOfForm, OtherActor, UnknownVehicle, PlateOutOfForm, RepeatedLine, NotCovered, NoDebit, UnknownStation}

@@ -1,4 +1,4 @@
-use book::Place;
+use cover::Place;
 ghost use mathlib.Core.Path.{_≡_};
 ghost use Rattle.verdicts.specs.Verdict.{wordOf, acceptanceOf, verdictOf, InWord};
 

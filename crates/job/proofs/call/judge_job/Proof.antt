@@ -1,7 +1,7 @@
 use native.Mathlib.Omega.{arith}
 use mathlib.Core.Path.{_∙_}
 use borrow.Author.Needs.{needs}
-use Rattle.job.specs.JobLaws.{body-length}
+use Rattle.job_form.specs.FormLaws.{body-length}
 use Rattle.job.proofs.call.judge_job.Statement.{statement}
 use Rattle.job.proofs.call.judge_job.Tie as tie
 

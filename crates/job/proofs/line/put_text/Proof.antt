@@ -2,7 +2,7 @@ use mathlib.Core.Path.{_≡_, sym, _∙_}
 use mathlib.Core.Bool.{true, false}
 use borrow.Author.Needs.{needs}
 use borrow.Author.Tests.{not-true, not-false}
-use Rattle.job.specs.Job.{isJob}
+use Rattle.job_form.specs.Form.{isJob}
 use Rattle.job.specs.Printed.{textOf}
 use Rattle.job.proofs.line.put_text.Statement.{statement}
 use Rattle.job.proofs.line.put_text.Tie as tie

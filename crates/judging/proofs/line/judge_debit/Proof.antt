@@ -1,7 +1,7 @@
 use mathlib.Core.Path.{_≡_, sym, ap, _∙_}
 use borrow.Author.Needs.{needs}
 use Rattle.tif.specs.Body.{lineAt}
-use Rattle.book.specs.declared.cover.Cover.{Cover}
+use Rattle.cover.specs.declared.cover.Cover.{Cover}
 use Rattle.judging.specs.Judging.{repeatedAt, coverOn, coveredBy, debitVerdict}
 use Rattle.judging.specs.StepLaws.{line-whole}
 use Rattle.judging.proofs.line.judge_debit.Statement.{statement}

@@ -1,0 +1,9 @@
+pub mod OrderLaws
+pub mod Cover
+pub mod CoverLaws
+pub mod Lease
+pub mod LeaseLaws
+pub mod Worked
+pub mod FirstCover
+pub mod FirstCoverLaws
+pub mod NoEnd

@@ -1,0 +1,41 @@
+use borrow.Author.Needs.{needs}
+use Rattle.job_line.proofs.line.put_answer.Statement.{statement}
+use Rattle.job_line.proofs.line.put_answer.Tie as tie
+
+enum-known-answer : tie.Need-enum-known-answer
+enum-known-answer c = search needs
+
+put-fault-requires : tie.Need-put-fault-requires
+put-fault-requires c κs = search needs
+
+enum-known-answer-2 : tie.Need-enum-known-answer-2
+enum-known-answer-2 c = search needs
+
+put-summary-requires : tie.Need-put-summary-requires
+put-summary-requires c κs = search needs
+
+same-length : tie.Need-same-length
+same-length c = search needs
+
+returns : tie.Need-returns
+returns c =
+    rw (c .before .before .before .before .before .answer .given .1) (c .before .before .put-fault .ensures)
+
+same-length-2 : tie.Need-same-length-2
+same-length-2 c = search needs
+
+returns-2 : tie.Need-returns-2
+returns-2 c = rw (c .before .before .before .before .before .answer2 .given .1) (c .before .before .put-summary .ensures)
+
+pub put-answer-spec : {M : Type 1} → statement M
+put-answer-spec =
+    tie.close
+    (tie.spec
+    enum-known-answer
+    put-fault-requires
+    enum-known-answer-2
+    put-summary-requires
+    same-length
+    returns
+    same-length-2
+    returns-2)

@@ -1,0 +1,5 @@
+// The line that the program prints for an answer.
+mod line;
+mod number;
+
+pub use line::put_answer;
