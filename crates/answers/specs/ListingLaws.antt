@@ -22,11 +22,11 @@ use Rattle.answers.specs.Card.{codeOf}
 use Rattle.answers.specs.Listing.{listedLines, Worded, numberAt, refusedAt, refusedOne, refusedBefore, isRefusal, refusedPlace, lineListed, refusedText}
 
 module _ (words : List ℕ) where
-  one-yes : (k : ℕ) → refusedAt words k ≡ true → refusedOne words k ≡ 1
+  pub one-yes : (k : ℕ) → refusedAt words k ≡ true → refusedOne words k ≡ 1
   unfolding oneAt
   one-yes k e = rw e
 
-  one-no : (k : ℕ) → refusedAt words k ≡ false → refusedOne words k ≡ 0
+  pub one-no : (k : ℕ) → refusedAt words k ≡ false → refusedOne words k ≡ 0
   unfolding oneAt
   one-no k e = rw e
 

@@ -14,6 +14,7 @@ pub use answer::answer_code;
 pub use answer::fault_number;
 pub use fault::check_call;
 pub use listing::put_tic;
+pub use outcome::file_answer;
 pub use outcome::head_of;
 pub use outcome::is_too_small;
 pub use outcome::summarize;

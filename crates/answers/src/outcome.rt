@@ -6,16 +6,17 @@ use lines::Count;
 use lines::Gross;
 use tic_text::TicHead;
 use tic_text::TicSums;
+use tif::Acceptance;
 use tif::Whole;
 use tif::side_of;
 ghost use mathlib.Core.Path.{_≡_};
 ghost use Prim.Native.Nat.{_≤_};
 ghost use lib.ListN.{length};
 ghost use lib.Dec.{ltb};
-ghost use Rattle.tif.specs.declared.acceptance.Acceptance.{Acceptance};
+ghost use Rattle.tif.specs.declared.acceptance.Acceptance.the-variants.{Judged};
 ghost use Rattle.judging.specs.Sums.{Worded};
 ghost use Rattle.answers.specs.Answer.{answerCode};
-ghost use Rattle.answers.specs.Told.{judgedAnswer, refusedFile, summaryFor, headOf, sumsOf, tooSmall};
+ghost use Rattle.answers.specs.Told.{judgedAnswer, fileAnswer, refusedFile, summaryFor, headOf, sumsOf, tooSmall};
 
 // 00 where no line is refused, 01 where one is.
 fn judged_answer(refused: usize) -> FileAnswer
@@ -27,10 +28,23 @@ fn judged_answer(refused: usize) -> FileAnswer
     FileAnswer::PartlyAccepted
 }
 
+// The answer for a file with this acceptance, of which so many lines are refused.
+pub fn file_answer(acceptance: Acceptance, refused: usize) -> FileAnswer
+    ensures { λ r. ⌜ r ≡ fileAnswer acceptance refused ⌝ }
+{
+    match acceptance {
+        Acceptance::Judged(_whole) => judged_answer(refused),
+        Acceptance::AlreadyReceived => FileAnswer::AlreadyReceived,
+        Acceptance::OutOfForm => FileAnswer::OutOfForm,
+        Acceptance::CountsDiffer => FileAnswer::CountsDiffer,
+        Acceptance::TotalDiffers => FileAnswer::TotalDiffers,
+    }
+}
+
 // What is told of a file whose lines have these words.
 pub fn summarize(tif: &[u8], words: &[u64], whole: Whole) -> Summary
     requires { ⌜ Worded (now tif) (now words) ⌝ }
-    ensures { λ r. ⌜ r ≡ summaryFor (Acceptance.Judged whole) (now (tif .entry)) (now (words .entry)) ⌝ }
+    ensures { λ r. ⌜ r ≡ summaryFor (Judged whole) (now (tif .entry)) (now (words .entry)) ⌝ }
 {
     let sums = sums_of(tif, words);
     let accepted = sums.accepted;

@@ -10,14 +10,14 @@ use native.Mathlib.Omega.{arith}
 use lib.ListN.{length}
 use borrow.Author.Tests.{not-true, not-false}
 use Rattle.lines.specs.Below.{someBelow, firstBelow}
-use Rattle.lines.specs.BelowLaws.{below-suc, first-hit, first-none, first-found}
+use Rattle.lines.specs.BelowLaws.{below-suc, some-each, first-before, first-hit, first-none, first-found}
 use Rattle.lines.specs.Same.{same, before}
 use Rattle.lines.specs.SameLaws.{same-is}
 use Rattle.book.specs.Layout.{agreements, entryEnd, panOf, bodyPlace}
 use Rattle.book.specs.LayoutLaws.{entry-ends, pan-length}
 use Rattle.book.specs.Form.{bookSound, Body, Whole}
 use Rattle.book.specs.FormLaws.{whole-is}
-use Rattle.cover.specs.OrderLaws.{either-side, some-each, none-before, before-trans, before-total, same-not-before, after-not-same}
+use Rattle.cover.specs.OrderLaws.{either-side, before-trans, before-total, same-not-before, after-not-same}
 use Rattle.cover.specs.Cover.{Asked, hasCover, panIs, agreementOf, coveringAgreement, reachedAt, Named, Between}
 
 module _ (w : ℕ) (book : List ℕ) (s : Whole w book) where
@@ -77,7 +77,7 @@ module _ (w : ℕ) (book pan : List ℕ) (n : Named w book pan) where
   -- before the first PAN reached none is the PAN
   passed-over : (i : ℕ) → i < firstBelow (agreements book) (reachedAt book pan) → panIs book pan i ≡ false
   unfolding reachedAt panIs
-  passed-over i h = same-not-before (panOf book i) pan (not-false (before (panOf book i) pan) (none-before (reachedAt book pan) (agreements book) i h))
+  passed-over i h = same-not-before (panOf book i) pan (not-false (before (panOf book i) pan) (first-before (reachedAt book pan) (agreements book) i h))
 
   -- the first PAN reached, if it is the PAN
   pub found-there : (i : ℕ) → i ≡ firstBelow (agreements book) (reachedAt book pan) → i < agreements book → panIs book pan i ≡ true → i ≡ agreementOf book pan

@@ -8,10 +8,10 @@ use native.Mathlib.Nat.{eq-or-lt-of-le}
 use native.Mathlib.Omega.{arith}
 use lib.Dec.{ltb}
 use borrow.Author.Tests.{ltb-true, ltb-false, lt-ltb}
-use Rattle.lines.specs.BelowLaws.{first-found}
+use Rattle.lines.specs.BelowLaws.{first-before, first-found}
 use Rattle.lines.specs.BoolLaws.{and-left, and-right, and-true}
 use Rattle.book.specs.Layout.{agreements, periodsAt, bodyPlace}
-use Rattle.cover.specs.OrderLaws.{either-side, none-before}
+use Rattle.cover.specs.OrderLaws.{either-side}
 use Rattle.cover.specs.Cover.{Asked, asking, coversAt, coveringPeriod, hasCover, panIs, agreementOf, coveringAgreement, coverIn, coverOf, agreementNumber, periodNumber, Named}
 use Rattle.cover.specs.CoverLaws.{by-pan, by-plate, pan-once}
 use Rattle.cover.specs.FirstCover.{placeCovers, Covers, FirstCover}
@@ -22,7 +22,7 @@ module _ (w : ℕ) (book : List ℕ) (q : Asked) where
   -- no period before the first that covers does
   none-in : (i j : ℕ) → j < coveringPeriod w book (bodyPlace w book i) q → coversAt w book (bodyPlace w book i) q j ≡ false
   unfolding coveringPeriod
-  none-in i j h = none-before (coversAt w book (bodyPlace w book i) q) (periodsAt book (bodyPlace w book i)) j h
+  none-in i j h = first-before (coversAt w book (bodyPlace w book i) q) (periodsAt book (bodyPlace w book i)) j h
 
   no-cover : (i j : ℕ) → hasCover w book q i ≡ false → j < periodsAt book (bodyPlace w book i) → coversAt w book (bodyPlace w book i) q j ≡ false
   unfolding hasCover
@@ -83,8 +83,8 @@ module _ (w : ℕ) (book pan : List ℕ) (n : Named w book pan) (q : Asked) wher
   none-earlier i j h v = go (q .named) refl
     where
       go : (t : Bool) → q .named ≡ t → ⊥
-      go true e = clash (covers-pan i j e v) (none-before (panIs book pan) (agreements book) i (rw (by-pan w book pan q e) at h))
-      go false e = clash (covers-period i j v) (no-cover w book q i j (none-before (hasCover w book q) (agreements book) i (rw (by-plate w book pan q e) at h)) (v .period))
+      go true e = clash (covers-pan i j e v) (first-before (panIs book pan) (agreements book) i (rw (by-pan w book pan q e) at h))
+      go false e = clash (covers-period i j v) (no-cover w book q i j (first-before (hasCover w book q) (agreements book) i (rw (by-plate w book pan q e) at h)) (v .period))
 
   -- the agreement that is looked in, where it is one, has the PAN, or a period that covers
   looked-pan : q .named ≡ true → coveringAgreement w book pan q < agreements book → panIs book pan (coveringAgreement w book pan q) ≡ true

@@ -1,12 +1,10 @@
 -- Fourteen nines as an end mean none: they are no moment themselves, and every real moment stands before them. Assumes nothing.
 use mathlib.Core.Path.{_≡_, refl, sym, ap, _∙_}
-use mathlib.Core.Bool.{Bool, true, false, not, _&&_, cond, true≢false, false≢true}
+use mathlib.Core.Bool.{Bool, true, false, not, _&&_, true≢false}
 use mathlib.Core.List.{List}
 use Prim.Native.Nat.{ℕ}
 use native.Mathlib.Omega.{arith}
-use lib.ListN.{length, getD, replicate, getD-replicate}
-use lib.Dec.{eqb}
-use borrow.Author.Tests.{eqb-true}
+use lib.ListN.{getD, replicate, getD-replicate}
 use Rattle.lines.specs.Below.{allBelow}
 use Rattle.lines.specs.Class.{isDigit, isOf, byteIs, allBytes, allOf}
 use Rattle.lines.specs.ClassLaws.{digit-is, all-of-at}
@@ -16,9 +14,8 @@ use Rattle.lines.specs.Same.{same, before}
 use Rattle.lines.specs.SameLaws.{same-is}
 use Rattle.lines.specs.declared.class.Class.the-variants.{Digit}
 use Rattle.moment.specs.Calendar.{isLeap, daysIn}
-use Rattle.moment.specs.Moment.{dateFault, timeFault, isReal, checkMoment, isMoment}
-use Rattle.moment.specs.declared.Moment.the-variants.{Wrong, OtherLength}
-use Rattle.moment.specs.declared.MomentPart.the-variants.{Character}
+use Rattle.moment.specs.Moment.{dateFault, timeFault, checkMoment, isMoment}
+use Rattle.moment.specs.MomentLaws.{moment-shows}
 use Rattle.book.specs.Layout.{startPart, endPart}
 use Rattle.cover.specs.Cover.{inTime}
 use Rattle.cover.specs.OrderLaws.{before-is, before-total}
@@ -29,18 +26,6 @@ noEnd = replicate 14 57
 pub no-end-unreal : isMoment noEnd ≡ false
 unfolding isMoment checkMoment dateFault timeFault daysIn isLeap firstOf allDigits numberOf valueBelow allOf allBytes byteIs isOf isDigit allBelow
 no-end-unreal = refl
-
--- a real moment is fourteen digits
-pub real-digits : (s : List ℕ) → isMoment s ≡ true → (length s ≡ 14) × (allDigits s ≡ true)
-unfolding isMoment checkMoment firstOf
-real-digits s e = go (eqb (length s) 14) refl (allDigits s) refl e
-  where
-    go : (a : Bool) → eqb (length s) 14 ≡ a → (b : Bool) → allDigits s ≡ b
-        → isReal (cond (not a) OtherLength (cond (not b) (Wrong Character) (cond (not (isReal (dateFault s))) (dateFault s) (timeFault s)))) ≡ true
-        → (length s ≡ 14) × (allDigits s ≡ true)
-    go false f b g p = absurd (false≢true p)
-    go true f false g p = absurd (false≢true p)
-    go true f true g p = (eqb-true (length s) 14 f, g)
 
 module _ (s : List ℕ) (e : isMoment s ≡ true) where
   other : same s noEnd ≡ false
@@ -57,7 +42,7 @@ module _ (s : List ℕ) (e : isMoment s ≡ true) where
       go : (t : Bool) → before s noEnd ≡ t → t ≡ true
       go true z = refl
       go false z =
-          let d = real-digits s e in
+          let d = moment-shows s e in
           let g = before-is noEnd s (before-total s noEnd (d .0) other z) in
           let low : getD noEnd (g .place) 0 ≡ 57 = getD-replicate 14 (g .place) 57 0 (g .inside) in
           let high = digit-is (getD s (g .place) 0) (all-of-at Digit s (d .1) (g .place) (omega (arith, g .inside, d .0))) in

@@ -2,38 +2,18 @@
 -- Assumes nothing.
 use mathlib.Core.Path.{_≡_, refl, sym, ap, _∙_}
 use mathlib.Core.Logic.{⊎-elim}
-use mathlib.Core.Bool.{Bool, true, false, not, _&&_, cond, true≢false}
+use mathlib.Core.Bool.{Bool, true, false, not, _&&_, true≢false}
 use mathlib.Core.List.{List}
-use Prim.Native.Nat.{ℕ, zero, suc, _≤_, _<_}
-use native.Mathlib.Nat.{not-suc-le-zero, eq-or-lt-of-le}
+use Prim.Native.Nat.{ℕ, _≤_, _<_}
+use native.Mathlib.Nat.{eq-or-lt-of-le}
 use native.Mathlib.Omega.{arith}
 use lib.ListN.{length, getD}
 use lib.Dec.{eqb, ltb}
 use borrow.Author.Tests.{eqb-true, eqb-false, ltb-true, ltb-false, lt-ltb, eq-eqb, ne-eqb, not-false, not-true}
-use Rattle.lines.specs.Below.{someBelow, firstBelow}
-use Rattle.lines.specs.BelowLaws.{below-suc, some-none, first-hit, first-found}
-use Rattle.lines.specs.BoolLaws.{and-left, and-right, and-true, or-false}
+use Rattle.lines.specs.BelowLaws.{some-each, first-before, first-hit, first-found}
+use Rattle.lines.specs.BoolLaws.{and-left, and-right, and-true}
 use Rattle.lines.specs.Same.{differAt, firstDifference, same, before}
 use Rattle.lines.specs.SameLaws.{difference-le, same-is}
-
--- ---- what the first number below k is not
-module _ (p : ℕ → Bool) where
-  pub some-each : (k : ℕ) → ((i : ℕ) → i < k → p i ≡ false) → someBelow k p ≡ false
-  unfolding someBelow
-  some-each zero each = refl
-  some-each (suc k) each = or-false (someBelow k p) (p k) (some-each k (λ i h. each i (omega arith))) (each k (omega arith))
-
-  -- p holds of nothing before the first
-  pub none-before : (k i : ℕ) → i < firstBelow k p → p i ≡ false
-  unfolding firstBelow
-  none-before zero i h = absurd (not-suc-le-zero h)
-  none-before (suc k) i h = go (λ l. none-before k i l) (someBelow k p) refl (p k) refl h
-    where
-      go : (i < firstBelow k p → p i ≡ false) → (a : Bool) → someBelow k p ≡ a → (b : Bool) → p k ≡ b
-          → i < cond a (firstBelow k p) (cond b k (suc k)) → p i ≡ false
-      go ih true e b f l = ih l
-      go ih false e true f l = some-none p k e i l
-      go ih false e false f l = below-suc i k l (λ z. ap p z ∙ f) (λ m. some-none p k e i m)
 
 -- one number is below another, or it is not
 pub either-side : {C : Type 0} (i j : ℕ) → (i < j → C) → (j ≤ i → C) → C
@@ -53,7 +33,7 @@ pub record Earlier (a b : List ℕ) : Type 0 where
 -- no difference before the first
 pub alike-before : (a b : List ℕ) (i : ℕ) → i < firstDifference a b → getD a i 0 ≡ getD b i 0
 unfolding firstDifference differAt
-alike-before a b i h = eqb-true (getD a i 0) (getD b i 0) (not-false (eqb (getD a i 0) (getD b i 0)) (none-before (differAt a b) (length a) i h))
+alike-before a b i h = eqb-true (getD a i 0) (getD b i 0) (not-false (eqb (getD a i 0) (getD b i 0)) (first-before (differAt a b) (length a) i h))
 
 pub before-is : (a b : List ℕ) → before a b ≡ true → Earlier a b
 unfolding before

@@ -9,12 +9,11 @@ use lib.ListN.{length, set}
 use lib.Dec.{eqb}
 use Rattle.lines.specs.Below.{allBelow, sumBelow}
 use Rattle.lines.specs.BelowLaws.{all-at}
-use Rattle.lines.specs.BoolLaws.{and-false-left}
+use Rattle.lines.specs.BoolLaws.{and-swap, and-false-left}
 use Rattle.lines.specs.Same.{same}
 use Rattle.lines.specs.SameLaws.{same-is}
 use Rattle.lines.specs.Spans.{spanCount, spanOf, spanAgrees, agreeAcross, agreeOn}
 use Rattle.passage.specs.Passage.{creditSpans}
-use Rattle.debits.specs.AndLaws.{and-swap}
 use Rattle.debits.specs.Form.{debitLine}
 use Rattle.debits.specs.Taking.{agrees, unmarked, freeFor}
 use Rattle.debits.specs.Credits.{marksAfter, placeAt, creditAccepted}

@@ -8,8 +8,7 @@ use lib.Dec.{eqb}
 use borrow.Author.Tests.{eq-eqb, ne-eqb}
 use Rattle.lines.specs.Below.{sumBelow}
 use Rattle.lines.specs.BelowLaws.{below-suc}
-use Rattle.lines.specs.BoolLaws.{and-false-right}
-use Rattle.debits.specs.AndLaws.{and-one}
+use Rattle.lines.specs.BoolLaws.{and-one, and-false-right}
 
 -- 1 for a number of which p holds
 unfoldable pub oneIf : (ℕ → Bool) → ℕ → ℕ

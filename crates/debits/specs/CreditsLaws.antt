@@ -11,8 +11,7 @@ use lib.ListN.{length, getD, set, length-set}
 use lib.Seq.{getD-set-same, getD-set-other}
 use lib.Dec.{eqb}
 use borrow.Author.Tests.{eqb-true, eqb-false, eq-eqb, not-true}
-use Rattle.lines.specs.BoolLaws.{and-left, and-right, and-false-right}
-use Rattle.debits.specs.AndLaws.{and-one}
+use Rattle.lines.specs.BoolLaws.{and-one, and-left, and-right, and-false-right}
 use Rattle.debits.specs.Taking.{agrees, unmarked, freeFor, taken, tookDebit, marksThen}
 use Rattle.debits.specs.TakingLaws.{marks-then, took-some, took-none}
 use Rattle.debits.specs.Credits.{marksAfter, takenAt, placeAt, creditAccepted, creditRefused}

@@ -1,4 +1,3 @@
-pub mod AndLaws
 pub mod Form
 pub mod FormLaws
 pub mod Taking

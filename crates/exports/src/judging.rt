@@ -99,7 +99,7 @@ pub extern "C" fn quindaf_judge(
     ensures { λ r. ⌜ CallJudged (callOf (now (name .entry)) (now (received .entry)) (now (card .entry)) (now (names .entry)) (now (book .entry)) (now (debits .entry)) (now (marks .entry)) (now (tif .entry)) [] room (now (out .entry))) (now (words .entry)) (now (summary .entry)) r (now (marks .exit)) (now (words .exit)) (now (out .exit)) (now (summary .exit)) ⌝ }
 {
     let none = [0u8; 1];
-    let answer = judge_words(
+    quindaf_judge_with(
         name,
         received,
         card,
@@ -112,6 +112,6 @@ pub extern "C" fn quindaf_judge(
         room,
         words,
         out,
-    );
-    tell_answer(summary, answer)
+        summary,
+    )
 }

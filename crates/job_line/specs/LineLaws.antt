@@ -1,7 +1,7 @@
 -- The laws of the printed answer: how many digits a number has, and how long each text is. Assumes nothing.
 use mathlib.Core.Path.{_≡_, refl}
 use mathlib.Core.Bool.{Bool, true, false, cond}
-use mathlib.Core.List.{List, [], _∷_, _++_}
+use mathlib.Core.List.{[], _∷_, _++_}
 use Prim.Native.Nat.{ℕ, zero, suc, _+_, _-_, _/_, _≤_, _<_}
 use native.Mathlib.Nat.{not-suc-le-zero}
 use native.Mathlib.Omega.{arith}
@@ -12,7 +12,7 @@ use Rattle.lines.specs.Number.{digitsOf}
 use Rattle.lines.specs.NumberLaws.{digits-length}
 use Rattle.tif.specs.Side.{sideText}
 use Rattle.tif.specs.declared.side.Side.{Side}
-use Rattle.tif.specs.declared.side.Side.the-variants.{Credit, Debit, Neither}
+use Rattle.tic_text.specs.TextLaws.{side-length}
 use Rattle.answers.specs.Answer.{answerCode, faultNumber}
 use Rattle.answers.specs.declared.answer.Answer.{Answer}
 use Rattle.answers.specs.declared.answer.Answer.the-variants.{Refused, Answered}
@@ -68,11 +68,6 @@ three-length a b c = omega (arith, length-append (afterBlank a ++ afterBlank b) 
 pub fault-length : (fault : CallFault) → length (faultText fault) ≤ 132
 unfolding faultText
 fault-length fault = omega (arith, length-append (69 ∷ []) (decimal (faultNumber fault)), decimal-length (faultNumber fault))
-
-pub side-length : (s : Side) → length (sideText s) ≡ 3
-side-length Credit = refl
-side-length Debit = refl
-side-length Neither = refl
 
 pub head-length : (s : Summary) → length (headText s) ≡ 6
 unfolding headText

@@ -105,9 +105,9 @@ module _ (c : Call) (sound : checkOf c ≡ CallCheck.Sound) (a : FileAnswer) (n 
           let eo : out′ ≡ splice (c .out) 0 (ticText (ticOfCall c)) = f .outThen ∙ (rw t) ∙ ap (λ (v : Tic). splice (c .out) 0 (ticText v)) its-tic in
           rw er (answered c sound (refusedFile a (c .tif)) told-none words words (none-tried words) t (c .marks) out′ same-marks eo (λ k h. absurd (omega arith)))
 
--- such a call by its file's answer
-pub no-lines : (c : Call) (x : Acceptance) → fileOf c ≡ x → linesToJudge x ≡ 0 → totalTold x ≡ 0 → NoLines c (fileAnswer x 0)
-no-lines c x e l t = record { none = ap linesToJudge e ∙ l; named = ap (λ (y : Acceptance). fileAnswer y 0) e; nothing = ap totalTold e ∙ t }
+-- such a call by its file's acceptance
+pub no-lines : (c : Call) (x : Acceptance) → x ≡ fileOf c → (linesToJudge x ≡ 0) × (totalTold x ≡ 0) → (a : FileAnswer) → a ≡ fileAnswer x 0 → NoLines c a
+no-lines c x e none a is = record { none = ap linesToJudge (sym e) ∙ none .0; named = ap (λ (y : Acceptance). fileAnswer y 0) (sym e) ∙ sym is; nothing = ap totalTold (sym e) ∙ none .1 }
 
 pub widths : (c : Call) → checkOf c ≡ CallCheck.Sound → Widths (c .name) (c .received)
 widths c e = let s = check-shows c e in record { named = s .named; dated = s .dated }

@@ -4,6 +4,7 @@ use answers::CallFault;
 use answers::FileAnswer;
 use answers::Summary;
 use answers::check_call;
+use answers::file_answer;
 use answers::head_of;
 use answers::is_too_small;
 use answers::put_tic;
@@ -190,8 +191,9 @@ fn judge_sound(
     requires { ⌜ SoundReady (callOf (now name) (now received) (now card) (now names) (now book) (now debits) (now marks) (now tif) (now tst) room (now out)) (now words) ⌝ }
     ensures { λ r. ⌜ CallTried (callOf (now (name .entry)) (now (received .entry)) (now (card .entry)) (now (names .entry)) (now (book .entry)) (now (debits .entry)) (now (marks .entry)) (now (tif .entry)) (now (tst .entry)) room (now (out .entry))) (now (words .entry)) r (now (marks .exit)) (now (words .exit)) (now (out .exit)) ⌝ }
 {
-    match acceptance_of(name, names, tif) {
-        Acceptance::Judged(whole) => judge_file(
+    let acceptance = acceptance_of(name, names, tif);
+    if let Acceptance::Judged(whole) = acceptance {
+        return judge_file(
             name,
             received,
             card,
@@ -205,44 +207,10 @@ fn judge_sound(
             room,
             words,
             out,
-        ),
-        Acceptance::AlreadyReceived => {
-            refuse_file(
-                name,
-                received,
-                card,
-                tif,
-                FileAnswer::AlreadyReceived,
-                room,
-                out,
-            )
-        }
-        Acceptance::OutOfForm => {
-            refuse_file(name, received, card, tif, FileAnswer::OutOfForm, room, out)
-        }
-        Acceptance::CountsDiffer => {
-            refuse_file(
-                name,
-                received,
-                card,
-                tif,
-                FileAnswer::CountsDiffer,
-                room,
-                out,
-            )
-        }
-        Acceptance::TotalDiffers => {
-            refuse_file(
-                name,
-                received,
-                card,
-                tif,
-                FileAnswer::TotalDiffers,
-                room,
-                out,
-            )
-        }
+        );
     }
+    let answer = file_answer(acceptance, 0);
+    refuse_file(name, received, card, tif, answer, room, out)
 }
 
 // The covered core of the call: it works on the words that are lent, and leaves those of the lines judged in front, also where there is no room.

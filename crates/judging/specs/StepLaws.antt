@@ -8,7 +8,7 @@ use native.Mathlib.Omega.{arith}
 use lib.ListN.{length, set, drop}
 use Rattle.lines.specs.Below.{allBelow, tableBelow}
 use Rattle.lines.specs.BelowLaws.{table-fill}
-use Rattle.lines.specs.BoolLaws.{and-false-right}
+use Rattle.lines.specs.BoolLaws.{and-one, and-false-right}
 use Rattle.lines.specs.FirstOf.{firstOf}
 use Rattle.lines.specs.Rows.{linePlace}
 use Rattle.lines.specs.RowsLaws.{line-length}
@@ -91,10 +91,6 @@ module _ (side : Side) (book debits marks tif : List ℕ) (k : ℕ) where
       })
 
 -- ---- a line as a whole
-and-one : (a : Bool) → (a && true) ≡ a
-and-one true = refl
-and-one false = refl
-
 module _ (j : Judging) (marks : List ℕ) (k : ℕ) where
   abbrev line : List ℕ
   line = lineAt (j .tif) k

@@ -125,6 +125,18 @@ module _ (p : ℕ → Bool) where
       go ih false e true f = rw (e, f) (omega arith, f)
       go ih false e false f = absurd (false≢true (sym (or-false (someBelow k p) (p k) e f) ∙ a))
 
+  -- before the first there is none
+  pub first-before : (k i : ℕ) → i < firstBelow k p → p i ≡ false
+  unfolding firstBelow
+  first-before zero i h = absurd (not-suc-le-zero h)
+  first-before (suc k) i h = go (λ l. first-before k i l) (someBelow k p) refl (p k) refl h
+    where
+      go : (i < firstBelow k p → p i ≡ false) → (a : Bool) → someBelow k p ≡ a → (b : Bool) → p k ≡ b
+          → i < cond a (firstBelow k p) (cond b k (suc k)) → p i ≡ false
+      go ih true e b f l = ih l
+      go ih false e true f l = some-none k e i l
+      go ih false e false f l = below-suc i k l (λ z. ap p z ∙ f) (λ m. some-none k e i m)
+
   -- a first that is below k is one of which p holds
   pub first-found : (k : ℕ) → firstBelow k p < k → p (firstBelow k p) ≡ true
   first-found k h = go (someBelow k p) refl

@@ -20,6 +20,17 @@ pub and-false-right : (a b : Bool) → b ≡ false → (a && b) ≡ false
 and-false-right true b p = p
 and-false-right false b p = refl
 
+pub and-one : (a : Bool) → (a && true) ≡ a
+and-one true = refl
+and-one false = refl
+
+pub and-swap : (a b c : Bool) → (a && b && c) ≡ (a && c && b)
+and-swap false b c = refl
+and-swap true true true = refl
+and-swap true true false = refl
+and-swap true false true = refl
+and-swap true false false = refl
+
 pub or-false : (a b : Bool) → a ≡ false → b ≡ false → (a || b) ≡ false
 or-false a b p q = rw (p, q)
 

@@ -1,17 +1,15 @@
 -- The paper's words for a plate, and that `paddedPlate` and `isFilled` say just that. Assumes nothing.
 use mathlib.Core.Path.{_≡_, refl, sym, ap, _∙_}
 use mathlib.Core.Logic.{_⊎_, inl, inr, ⊎-elim}
-use mathlib.Core.Bool.{Bool, true, false, not, cond, false≢true, true≢false}
+use mathlib.Core.Bool.{Bool, true, false, not, false≢true, true≢false}
 use mathlib.Core.List.{List}
 use Prim.Native.Nat.{ℕ, zero, suc, _+_, _-_, _≤_, _<_}
-use native.Mathlib.Nat.{not-suc-le-zero}
 use native.Mathlib.Omega.{arith}
 use lib.ListN.{length, getD, take, drop, length-drop}
 use lib.Seq.{length-take-le, getD-take, getD-drop}
 use lib.Dec.{eqb, ltb}
 use borrow.Author.Tests.{eqb-true, eq-eqb, ltb-true, ltb-false, lt-ltb}
-use Rattle.lines.specs.Below.{someBelow, firstBelow}
-use Rattle.lines.specs.BelowLaws.{below-suc, all-at, all-each, some-zero, some-none, first-hit, first-found}
+use Rattle.lines.specs.BelowLaws.{all-at, all-each, some-zero, first-before, first-hit, first-found}
 use Rattle.lines.specs.BoolLaws.{and-true, and-left, and-right}
 use Rattle.lines.specs.Class.{isDigit, isCapital, isOf, byteIs, allBytes, allOf, placeOf, filledTo, paddedWith}
 use Rattle.lines.specs.ClassLaws.{place-le, all-of-at}
@@ -24,17 +22,6 @@ use Rattle.plate.specs.Plate.{paddedPlate, isFilled}
 pub record PlateWords (plate : List ℕ) : Type 0 where
   pub known : (i : ℕ) → i < length plate → (isPlateByte (getD plate i 0) ≡ true) ⊎ (getD plate i 0 ≡ 32)
   pub closed : (i j : ℕ) → i < j → j < length plate → getD plate i 0 ≡ 32 → getD plate j 0 ≡ 32
-
--- p holds of nothing before its first place
-before-first : (p : ℕ → Bool) (k i : ℕ) → i < firstBelow k p → p i ≡ false
-unfolding firstBelow
-before-first p zero i h = absurd (not-suc-le-zero h)
-before-first p (suc k) i h = go (λ l. before-first p k i l) (someBelow k p) refl (p k) refl h
-  where
-    go : (i < firstBelow k p → p i ≡ false) → (b : Bool) → someBelow k p ≡ b → (d : Bool) → p k ≡ d → i < cond b (firstBelow k p) (cond d k (suc k)) → p i ≡ false
-    go ih true e d f l = ih l
-    go ih false e true f l = some-none p k e i l
-    go ih false e false f l = below-suc i k l (λ q. ap p q ∙ f) (λ q. some-none p k e i q)
 
 -- a blank is not in the set
 no-blank : isPlateByte 32 ≡ false
@@ -83,7 +70,7 @@ module _ (plate : List ℕ) where
 
   not-blank : (i : ℕ) → i < filledTo plate → getD plate i 0 ≡ 32 → ⊥
   unfolding placeOf byteIs isOf
-  not-blank i h b = false≢true (sym (before-first (byteIs (isOf (Only 32)) plate) (length plate) i h) ∙ eq-eqb (getD plate i 0) 32 b)
+  not-blank i h b = false≢true (sym (first-before (byteIs (isOf (Only 32)) plate) (length plate) i h) ∙ eq-eqb (getD plate i 0) 32 b)
 
   pub words-padded : PlateWords plate → paddedPlate plate ≡ true
   unfolding paddedPlate paddedWith allOf allBytes byteIs isOf

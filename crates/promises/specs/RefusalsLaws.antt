@@ -15,17 +15,9 @@ use Rattle.lines.specs.BoolLaws.{and-true, and-left, and-right, or-true-left, o
 use Rattle.tif.specs.Body.{amountAt}
 use Rattle.judging.specs.Sums.{isCounted, oneAt, amountOf, countOf, totalOf}
 use Rattle.answers.specs.Listing.{refusedAt, refusedOne, refusedBefore, isRefusal, refusedPlace}
-use Rattle.answers.specs.ListingLaws.{before-zero, before-suc, before-le, place-is}
+use Rattle.answers.specs.ListingLaws.{one-yes, one-no, before-zero, before-suc, before-le, place-is}
 
 module _ (words : List ℕ) where
-  one-yes : (k : ℕ) → refusedAt words k ≡ true → refusedOne words k ≡ 1
-  unfolding oneAt
-  one-yes k e = rw e
-
-  one-no : (k : ℕ) → refusedAt words k ≡ false → refusedOne words k ≡ 0
-  unfolding oneAt
-  one-no k e = rw e
-
   pub count-is : countOf true words ≡ refusedBefore words (length words)
   unfolding countOf refusedBefore
   count-is = refl
@@ -46,10 +38,10 @@ module _ (words : List ℕ) where
       go ih true l r e = or-true-left (someBelow n (isRefusal words j)) (isRefusal words j n) (ih (ltb-true j (refusedBefore words n) l))
       go ih false l true e =
           let le = ltb-false j (refusedBefore words n) l in
-          or-true-right (someBelow n (isRefusal words j)) (isRefusal words j n) (and-true (refusedAt words n) (eqb (refusedBefore words n) j) e (eq-eqb (refusedBefore words n) j (omega (arith, h, more, one-yes n e, le))))
+          or-true-right (someBelow n (isRefusal words j)) (isRefusal words j n) (and-true (refusedAt words n) (eqb (refusedBefore words n) j) e (eq-eqb (refusedBefore words n) j (omega (arith, h, more, one-yes words n e, le))))
       go ih false l false e =
           let le = ltb-false j (refusedBefore words n) l in
-          absurd (omega (arith, h, more, one-no n e, le))
+          absurd (omega (arith, h, more, one-no words n e, le))
 
   -- refusal number j, counted from 0: a line of the file, refused, with j refused before it
   pub record Placed (j k : ℕ) : Type 0 where
@@ -74,7 +66,7 @@ module _ (words : List ℕ) where
       let m = before-le words (k + 1) (length words - (k + 1)) in
       let f : k + 1 + (length words - (k + 1)) ≡ length words = omega arith in
       let g : refusedBefore words (k + 1) ≤ refusedBefore words (length words) = rw f at m in
-      (omega (arith, before-suc words k, one-yes k e, g, count-is), place-is words k h e)
+      (omega (arith, before-suc words k, one-yes words k e, g, count-is), place-is words k h e)
 
   -- in file order
   pub in-order : (i j : ℕ) → i < j → j < countOf true words → refusedPlace words i < refusedPlace words j
@@ -101,10 +93,10 @@ module _ (words : List ℕ) where
 
       go : sumBelow k (amountOf true tif words) ≡ sumBelow (refusedBefore words k) (λ j. amountAt tif (refusedPlace words j)) → (b : Bool) → refusedAt words k ≡ b → sumBelow (suc k) (amountOf true tif words) ≡ sumBelow (refusedBefore words (suc k)) (λ j. amountAt tif (refusedPlace words j))
       go ih true e =
-          let m : refusedBefore words (suc k) ≡ suc (refusedBefore words k) = omega (arith, more, one-yes k e) in
+          let m : refusedBefore words (suc k) ≡ suc (refusedBefore words k) = omega (arith, more, one-yes words k e) in
           rw (m, e, place-is words k (omega arith) e, ih)
       go ih false e =
-          let m : refusedBefore words (suc k) ≡ refusedBefore words k = omega (arith, more, one-no k e) in
+          let m : refusedBefore words (suc k) ≡ refusedBefore words k = omega (arith, more, one-no words k e) in
           rw (m, e, ih) (add-zero _)
 
   pub refused-total : (tif : List ℕ) → totalOf true tif words ≡ sumBelow (countOf true words) (λ j. amountAt tif (refusedPlace words j))

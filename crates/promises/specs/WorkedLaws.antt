@@ -22,9 +22,8 @@ use Rattle.tif.specs.declared.side.Side.{Side}
 use Rattle.tif.specs.declared.side.Side.the-variants.{Credit, Debit, Neither}
 use Rattle.judging.specs.Judging.{marksBefore, wordsOf}
 use Rattle.verdicts.specs.declared.record.Record.{Record}
-use Rattle.tic.specs.DigitLaws.{digits-all}
 use Rattle.tic.specs.FileLaws.{joined-framed}
-use Rattle.tic.specs.FreeLaws.{FeedFree, with-piece, joined-feed, digits-free, run-free, side-free}
+use Rattle.tic.specs.FreeLaws.{FeedFree, with-piece, joined-feed, zeros-free, blanks-free, number-free, side-free}
 use Rattle.tic_text.specs.Pieces.{joined}
 use Rattle.tic.specs.Sound.{notFeed}
 use Rattle.tic_text.specs.Text.{zeros, blanks, ticText}
@@ -38,25 +37,14 @@ use Rattle.answers.specs.declared.answer.Summary.{Summary}
 use Rattle.promises.specs.WorkedCall.{Passing, linePieces, lineWith, headerPieces, headerWith, footerPieces, footerWith, rowOf, tifWith}
 
 -- ---- line feeds
-zeros-free : (n : ℕ) → allBytes notFeed (zeros n) ≡ true
-unfolding zeros
-zeros-free n = run-free n 48 (omega arith)
-
-blanks-free : (n : ℕ) → allBytes notFeed (blanks n) ≡ true
-unfolding blanks
-blanks-free n = run-free n 32 (omega arith)
-
-numbers-free : (w v : ℕ) → allBytes notFeed (digitsOf w v) ≡ true
-numbers-free w v = digits-free (digitsOf w v) (digits-all w v)
-
 -- a line whose type and PAN have none ends in its only one
 pub line-feed : (p : Passing) → allBytes notFeed (p .type) ≡ true → allBytes notFeed (p .pan) ≡ true → oneFeed (lineWith p) ≡ true
 unfolding lineWith allBytes byteIs allBelow notFeed digitsOf
 line-feed p e f =
     joined-feed (linePieces p)
-    (with-piece refl (with-piece e (with-piece f (with-piece (zeros-free 38) (with-piece (numbers-free 14 (p .moment)) (with-piece (zeros-free 2)
+    (with-piece refl (with-piece e (with-piece f (with-piece (zeros-free 38) (with-piece (number-free 14 (p .moment)) (with-piece (zeros-free 2)
     (with-piece refl (with-piece (zeros-free 1) (with-piece refl (with-piece refl
-    (with-piece (zeros-free 23) (with-piece (numbers-free 11 (p .fee)) (with-piece (numbers-free 11 (p .amount - p .fee)) (with-piece (numbers-free 11 (p .amount))
+    (with-piece (zeros-free 23) (with-piece (number-free 11 (p .fee)) (with-piece (number-free 11 (p .amount - p .fee)) (with-piece (number-free 11 (p .amount))
     (with-piece refl (with-piece (zeros-free 77) (with-piece refl
     (with-piece refl (with-piece refl (with-piece (zeros-free 29) (with-piece refl (with-piece refl (with-piece refl (with-piece (zeros-free 510) FeedFree.nil))))))))))))))))))))))))
 
@@ -64,12 +52,12 @@ pub header-feed : (sequence : ℕ) (side : Side) (n : ℕ) → oneFeed (headerWi
 unfolding headerWith allBytes byteIs allBelow notFeed digitsOf
 header-feed sequence side n =
     joined-feed (headerPieces sequence side n)
-    (with-piece refl (with-piece refl (with-piece refl (with-piece refl (with-piece refl (with-piece refl (with-piece (numbers-free 4 sequence)
-    (with-piece refl (with-piece (zeros-free 12) (with-piece (blanks-free 6) (with-piece refl (with-piece (numbers-free 15 n) (with-piece (side-free side) (with-piece (numbers-free 15 n) (with-piece refl (with-piece refl (with-piece (zeros-free 50) FeedFree.nil)))))))))))))))))
+    (with-piece refl (with-piece refl (with-piece refl (with-piece refl (with-piece refl (with-piece refl (with-piece (number-free 4 sequence)
+    (with-piece refl (with-piece (zeros-free 12) (with-piece (blanks-free 6) (with-piece refl (with-piece (number-free 15 n) (with-piece (side-free side) (with-piece (number-free 15 n) (with-piece refl (with-piece refl (with-piece (zeros-free 50) FeedFree.nil)))))))))))))))))
 
 pub footer-feed : (total : ℕ) → oneFeed (footerWith total) ≡ true
 unfolding footerWith allBytes byteIs allBelow notFeed
-footer-feed total = joined-feed (footerPieces total) (with-piece refl (with-piece (numbers-free 15 total) (with-piece (zeros-free 90) FeedFree.nil)))
+footer-feed total = joined-feed (footerPieces total) (with-piece refl (with-piece (number-free 15 total) (with-piece (zeros-free 90) FeedFree.nil)))
 
 -- ---- a TIF of whole lines
 -- rows of a line's width, each ending in its only line feed

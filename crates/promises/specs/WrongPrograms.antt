@@ -36,6 +36,7 @@ use Rattle.answers.specs.declared.answer.Answer.the-variants.{Refused, Answered
 use Rattle.answers.specs.declared.answer.CallFault.the-variants.{Room}
 use Rattle.answers.specs.declared.answer.FileAnswer.{FileAnswer}
 use Rattle.answers.specs.declared.answer.FileAnswer.the-variants.{Accepted, PartlyAccepted, AlreadyReceived, CountsDiffer, TotalDiffers, OutOfForm}
+use Rattle.promises.specs.Demand1.{answered-always}
 use Rattle.promises.specs.WorkedCall.{workedName, workedCard, workedCall}
 use Rattle.promises.specs.WorkedFile.{workedSummary, recordWith, worked-answer, worked-out}
 
@@ -79,7 +80,7 @@ abbrev pub asDefined : Program
 asDefined c records = record { answer = answerOf c; marks = marksOf c; records = recordsOf c records; out = outOf c }
 
 pub not-all-refused : (c : Call) (records : List Record) → Allowed c records (asDefined c records)
-not-all-refused c records = record { answer = refl; marksThen = refl; outThen = refl; recordsThen = refl }
+not-all-refused = answered-always
 
 -- ---- the worked call: three records, and room for its TIC
 pub worked-is : answerOf workedCall ≡ Answered workedSummary

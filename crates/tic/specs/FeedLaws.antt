@@ -1,16 +1,15 @@
 -- Rows that end in their only line feed: made so, and taken apart. Assumes nothing.
 use mathlib.Core.Path.{_≡_, refl, sym, ap, _∙_}
-use mathlib.Core.Bool.{Bool, true, false, not, cond, true≢false}
+use mathlib.Core.Bool.{Bool, true, false, not, true≢false}
 use mathlib.Core.List.{List, [], _∷_, _++_}
-use Prim.Native.Nat.{ℕ, zero, suc, _+_, _<_}
-use native.Mathlib.Nat.{not-suc-le-zero}
+use Prim.Native.Nat.{ℕ, _+_}
 use native.Mathlib.Omega.{arith}
 use lib.ListN.{length, getD, take, length-append, List·getD-append}
 use lib.Seq.{getD-at, getD-take, length-take-le}
 use lib.Dec.{eqb}
 use borrow.Author.Tests.{eqb-true, eq-eqb, not-false}
-use Rattle.lines.specs.Below.{someBelow, firstBelow}
-use Rattle.lines.specs.BelowLaws.{below-suc, first-hit, first-found, some-none, some-each}
+use Rattle.lines.specs.Below.{firstBelow}
+use Rattle.lines.specs.BelowLaws.{first-hit, first-before, first-found, some-each}
 use Rattle.lines.specs.Class.{isOf, byteIs, allBytes, placeOf}
 use Rattle.lines.specs.Rows.{oneFeed}
 use Rattle.lines.specs.declared.class.Class.the-variants.{Only}
@@ -33,17 +32,6 @@ feed-last s e =
     not-false' : (b : Bool) → not b ≡ true → b ≡ false
     not-false' true q = absurd (true≢false (sym q))
     not-false' false q = refl
-
--- before the first there is none
-first-before : (p : ℕ → Bool) (k i : ℕ) → i < firstBelow k p → p i ≡ false
-unfolding firstBelow
-first-before p zero i h = absurd (not-suc-le-zero h)
-first-before p (suc k) i h = go (λ j. first-before p k i j) (someBelow k p) refl (p k) refl h
-  where
-    go : (i < firstBelow k p → p i ≡ false) → (a : Bool) → someBelow k p ≡ a → (b : Bool) → p k ≡ b → i < cond a (firstBelow k p) (cond b k (suc k)) → p i ≡ false
-    go ih true e b f j = ih j
-    go ih false e true f j = some-none p k e i j
-    go ih false e false f j = below-suc i k j (λ q. ap p q ∙ f) (λ l. some-none p k e i l)
 
 -- a row of n + 1 bytes whose only line feed is its last byte
 module _ (row : List ℕ) (n : ℕ) (l : length row ≡ n + 1) (e : oneFeed row ≡ true) where

@@ -1,6 +1,6 @@
 -- Texts without a line feed: actors, names, moments, digits, and pieces of them joined. Assumes nothing.
 use mathlib.Core.Path.{_≡_, refl, sym, ap, _∙_}
-use mathlib.Core.Bool.{Bool, true, false, not, _&&_, _||_, cond, false≢true}
+use mathlib.Core.Bool.{Bool, true, false, not, _&&_, _||_}
 use mathlib.Core.List.{List, [], _∷_, _++_}
 use Prim.Native.Nat.{ℕ, _≤_}
 use native.Mathlib.Omega.{arith}
@@ -12,26 +12,23 @@ use Rattle.lines.specs.BoolLaws.{and-left, and-right}
 use Rattle.lines.specs.Class.{isDigit, isCapital, isOf, byteIs, allBytes, allOf}
 use Rattle.lines.specs.ClassLaws.{between-is, digit-is}
 use Rattle.lines.specs.Columns.{cols}
-use Rattle.lines.specs.FirstOf.{firstOf}
-use Rattle.lines.specs.Number.{allDigits, numberOf}
+use Rattle.lines.specs.Number.{allDigits, numberOf, digitsOf}
 use Rattle.lines.specs.Rows.{oneFeed}
 use Rattle.lines.specs.Tests.{ne-not}
 use Rattle.lines.specs.declared.class.Class.the-variants.{Digit, DigitOrCapital}
-use Rattle.moment.specs.Moment.{isReal, dateFault, timeFault, checkDate, checkMoment, isDate, isMoment}
-use Rattle.moment.specs.declared.Moment.{Moment}
-use Rattle.moment.specs.declared.Moment.the-variants.{Wrong, OtherLength}
-use Rattle.moment.specs.declared.MomentPart.the-variants.{Character}
+use Rattle.moment.specs.MomentLaws.{date-shows}
 use Rattle.tif.specs.Name.{isActor, isSequence, isFileStem}
 use Rattle.tif.specs.NameLaws.{stem-shows}
 use Rattle.tif.specs.Side.{sideText}
 use Rattle.tif.specs.declared.side.Side.{Side}
 use Rattle.tif.specs.declared.side.Side.the-variants.{Credit, Debit, Neither}
 use Rattle.tic.specs.ByteLaws.{bytes-append, bytes-none, bytes-run, bytes-weaken}
+use Rattle.tic.specs.DigitLaws.{digits-all}
 use Rattle.tic.specs.FeedLaws.{feed-last}
 use Rattle.tic_text.specs.PieceLaws.{cut-joined, joined-append}
 use Rattle.tic_text.specs.Pieces.{joined}
 use Rattle.tic.specs.Sound.{notFeed}
-use Rattle.tic_text.specs.Text.{lineFeed}
+use Rattle.tic_text.specs.Text.{lineFeed, zeros, blanks}
 
 -- ---- no byte of these classes is a line feed
 not-ten : (b : ℕ) → 11 ≤ b → notFeed b ≡ true
@@ -60,33 +57,27 @@ cards-free s e = bytes-weaken (isOf DigitOrCapital) notFeed card-free s e
 pub run-free : (n b : ℕ) → 11 ≤ b → allBytes notFeed (replicate n b) ≡ true
 run-free n b h = bytes-run notFeed n b (not-ten b h)
 
+pub blanks-free : (n : ℕ) → allBytes notFeed (blanks n) ≡ true
+unfolding blanks
+blanks-free n = run-free n 32 (omega arith)
+
+pub zeros-free : (n : ℕ) → allBytes notFeed (zeros n) ≡ true
+unfolding zeros
+zeros-free n = run-free n 48 (omega arith)
+
+pub number-free : (w v : ℕ) → allBytes notFeed (digitsOf w v) ≡ true
+number-free w v = digits-free (digitsOf w v) (digits-all w v)
+
 pub side-free : (s : Side) → allBytes notFeed (sideText s) ≡ true
 unfolding allBytes byteIs allBelow notFeed
 side-free Credit = refl
 side-free Debit = refl
 side-free Neither = refl
 
--- ---- actors, dates, moments, names
+-- ---- actors and names
 pub actor-shows : (s : List ℕ) → isActor s ≡ true → (length s ≡ 6) × (allOf DigitOrCapital s ≡ true)
 unfolding isActor
 actor-shows s e = (eqb-true (length s) 6 (and-left (eqb (length s) 6) (allOf DigitOrCapital s) e), and-right (eqb (length s) 6) (allOf DigitOrCapital s) e)
-
--- of a text that passes a length and then digits
-passes : (s : List ℕ) (w : ℕ) (rest : Moment) → isReal (cond (not (eqb (length s) w)) OtherLength (cond (not (allDigits s)) (Wrong Character) rest)) ≡ true → (length s ≡ w) × (allDigits s ≡ true)
-passes s w rest e = go (eqb (length s) w) refl (allDigits s) refl e
-  where
-    go : (a : Bool) → eqb (length s) w ≡ a → (b : Bool) → allDigits s ≡ b → isReal (cond (not a) OtherLength (cond (not b) (Wrong Character) rest)) ≡ true → (length s ≡ w) × (allDigits s ≡ true)
-    go true f true g p = (eqb-true (length s) w f, g)
-    go true f false g p = absurd (false≢true p)
-    go false f b g p = absurd (false≢true p)
-
-pub moment-shows : (s : List ℕ) → isMoment s ≡ true → (length s ≡ 14) × (allDigits s ≡ true)
-unfolding isMoment checkMoment firstOf
-moment-shows s e = passes s 14 (cond (not (isReal (dateFault s))) (dateFault s) (timeFault s)) e
-
-date-digits : (s : List ℕ) → isDate s ≡ true → allDigits s ≡ true
-unfolding isDate checkDate firstOf
-date-digits s e = passes s 8 (dateFault s) e .1
 
 sequence-digits : (s : List ℕ) → isSequence s ≡ true → allDigits s ≡ true
 unfolding isSequence
@@ -117,5 +108,5 @@ stem-free s e =
     ap (allBytes notFeed) (sym (cut-joined 0 (6 ∷ 8 ∷ 4 ∷ []) s (omega (arith, t .long))))
     ∙ joined-free
     (with-piece (cards-free (cols 1 6 s) (actor-shows (cols 1 6 s) (t .actor) .1))
-    (with-piece (digits-free (cols 7 14 s) (date-digits (cols 7 14 s) (t .date)))
+    (with-piece (digits-free (cols 7 14 s) (date-shows (cols 7 14 s) (t .date) .1))
     (with-piece (digits-free (cols 15 18 s) (sequence-digits (cols 15 18 s) (t .sequence))) FeedFree.nil)))

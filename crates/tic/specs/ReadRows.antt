@@ -18,6 +18,7 @@ use Rattle.lines.specs.Same.{differAt, firstDifference, same}
 use Rattle.lines.specs.SameLaws.{same-self}
 use Rattle.lines.specs.declared.class.Class.the-variants.{DigitOrCapital, Only}
 use Rattle.moment.specs.Moment.{isMoment}
+use Rattle.moment.specs.MomentLaws.{moment-shows}
 use Rattle.passage.specs.Passage.{grossAmount}
 use Rattle.tif.specs.Every.{Tested, tested, holds, every-first, every-rest}
 use Rattle.tif.specs.Header.{nok}
@@ -30,7 +31,7 @@ use Rattle.tif.specs.declared.side.Side.the-variants.{Credit, Debit, Neither}
 use Rattle.tic.specs.ByteLaws.{bytes-part, only-run}
 use Rattle.tic_text.specs.Columns.{acceptedField, rejectedField, sideField, acceptedAgain, rejectedAgain, shownPart, codePart, rejectedSumField, tifReceiver, receivedStem, receptionMoment}
 use Rattle.tic.specs.DigitLaws.{digits-all, number-digits}
-use Rattle.tic.specs.FreeLaws.{digits-free, cards-free, run-free, side-free, actor-shows, moment-shows, stem-free, FeedFree, with-piece, joined-feed}
+use Rattle.tic.specs.FreeLaws.{digits-free, cards-free, blanks-free, zeros-free, number-free, side-free, actor-shows, stem-free, FeedFree, with-piece, joined-feed}
 use Rattle.tic_text.specs.PieceLaws.{joined-cut}
 use Rattle.tic_text.specs.Pieces.{joined, widthsOf, cutFrom}
 use Rattle.tic_parts.specs.Reading.{namesOneTif, isSide, sideIn, headerFormed, headerDigits, headerSound, headOf, headAgrees, countsAgree, listedFormed, footerFormed, sumsOf}
@@ -74,17 +75,6 @@ blanks-only n = only-run 32 n
 zeros-only : (n : ℕ) → allOf (Only 48) (zeros n) ≡ true
 unfolding zeros
 zeros-only n = only-run 48 n
-
-blanks-free : (n : ℕ) → allBytes notFeed (blanks n) ≡ true
-unfolding blanks
-blanks-free n = run-free n 32 (omega arith)
-
-zeros-free : (n : ℕ) → allBytes notFeed (zeros n) ≡ true
-unfolding zeros
-zeros-free n = run-free n 48 (omega arith)
-
-number-free : (w v : ℕ) → allBytes notFeed (digitsOf w v) ≡ true
-number-free w v = digits-free (digitsOf w v) (digits-all w v)
 
 -- the bytes of these literal texts
 literal-free : (allBytes notFeed (48 ∷ []) ≡ true) × (allBytes notFeed (49 ∷ []) ≡ true) × (allBytes notFeed (50 ∷ []) ≡ true) × (allBytes notFeed ticKind ≡ true) × (allBytes notFeed tifKind ≡ true) × (allBytes notFeed nok ≡ true) × (allBytes notFeed version ≡ true)

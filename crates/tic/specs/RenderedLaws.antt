@@ -14,6 +14,7 @@ use Rattle.lines.specs.FirstOf.{past, none, firstOf}
 use Rattle.lines.specs.Number.{numberOf}
 use Rattle.lines.specs.Rows.{mostLines, framedLines, oneFeed}
 use Rattle.lines.specs.declared.rows.Lines.the-variants.{Of}
+use Rattle.moment.specs.MomentLaws.{moment-shows}
 use Rattle.passage.specs.Passage.{grossAmount}
 use Rattle.passage.specs.PassageLaws.{gross-small}
 use Rattle.tif.specs.Every.{every-first, every-rest}
@@ -21,7 +22,7 @@ use Rattle.tif.specs.NameLaws.{stem-shows}
 use Rattle.tif.specs.Side.{isSided}
 use Rattle.tic_text.specs.Columns.{ticLayout}
 use Rattle.tic.specs.FileLaws.{joined-header, joined-line, joined-footer, joined-framed}
-use Rattle.tic.specs.FreeLaws.{actor-shows, moment-shows}
+use Rattle.tic.specs.FreeLaws.{actor-shows}
 use Rattle.tic.specs.ReadRows.{HeaderValues, LineShown, line-shows, code-shows, text-sound, head-back, text-counts, header-feed, amount-back, row-formed, row-feed, foot-formed, sums-back, foot-feed}
 use Rattle.tic_parts.specs.Reading.{acceptanceFits, headAgrees, headerSound, headOf, countsAgree, rowAt, listedFormed, listedFormedAt, linesFormed, footerFormed, sumsOf, sumsFit, listedAmount, listedSum, ticHeader, ticFooter, valuesOf, readTic}
 use Rattle.tic_parts.specs.ReadingLaws.{read-from}
