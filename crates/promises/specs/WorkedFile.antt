@@ -63,6 +63,7 @@ use Rattle.answers.specs.declared.answer.Answer.{Answer}
 use Rattle.answers.specs.declared.answer.Answer.the-variants.{Answered}
 use Rattle.answers.specs.declared.answer.FileAnswer.the-variants.{PartlyAccepted}
 use Rattle.answers.specs.declared.answer.Summary.{Summary}
+use Rattle.job_line.specs.Line.{digitCount, decimal, afterBlank, headText, countsText, amountsText, summaryText, answerText}
 use Rattle.promises.specs.WorkedCall.{lineWith, headerWith, footerWith, rowOf, tifWith, firstPassing, secondPassing, thirdPassing, workedName, workedCard, workedRows, workedWith, workedCall}
 use Rattle.promises.specs.WorkedLaws.{line-feed, WholeRows, tif-framed, acceptanceWith, file-by, answer-is, out-is, records-are, marks-are}
 
@@ -80,6 +81,10 @@ workedSummary = record {
   «refused_amount» = grossOf 12550;
   length = 1136;
 }
+
+-- the line that the program prints, `01 DEB 3 2 1 17850 5300 12550`, without its line feed
+abbrev pub workedLine : List ℕ
+workedLine = 48 ∷ 49 ∷ 32 ∷ 68 ∷ 69 ∷ 66 ∷ 32 ∷ 51 ∷ 32 ∷ 50 ∷ 32 ∷ 49 ∷ 32 ∷ 49 ∷ 55 ∷ 56 ∷ 53 ∷ 48 ∷ 32 ∷ 53 ∷ 51 ∷ 48 ∷ 48 ∷ 32 ∷ 49 ∷ 50 ∷ 53 ∷ 53 ∷ 48 ∷ []
 
 -- the TIC: the header's pieces as 01 has them joined; the second line with its code, 07; "2", the accepted sum, the refused sum, zeros
 abbrev pub workedListed : List ℕ
@@ -126,6 +131,10 @@ told : summaryFor (Acceptance.Judged threeLines) workedTif workedWords ≡ worke
 unfolding judgedAnswer countOf totalOf amountOf oneAt isCounted isAccepted sumBelow amountAt numberOf valueBelow sideOf firstOf same firstDifference differAt firstBelow someBelow lineOf tifWith headerWith footerWith rowOf lineWith joinBelow joined zeros blanks digitsOf
 told = refl
 
+printed : answerText (Answered workedSummary) ≡ workedLine
+unfolding summaryText headText countsText amountsText afterBlank decimal digitCount digitsOf
+printed = refl
+
 written : ticText (ticOf workedName (workedCall .received) workedCard workedTif workedWords (headOf workedSummary) (sumsOf workedSummary)) ≡ workedTic
 unfolding ticText headerText listedAt listedText footerText refusedPlace isRefusal refusedBefore codeOf oneAt isCounted isAccepted sumBelow firstBelow someBelow lineOf tifWith headerWith footerWith rowOf lineWith joinBelow joined zeros blanks digitsOf
 written = refl
@@ -170,9 +179,10 @@ module _ (room : ℕ) (out : List ℕ) where
     unfolding marksAfter reachesAt sideOf firstOf same firstDifference differAt firstBelow someBelow tifWith headerWith footerWith rowOf lineWith joinBelow joined zeros blanks digitsOf
     worked-marks = marks-are (workedWith room out) threeLines workedWords sound judged verdicts workedSummary worked-answer ∙ refl
 
--- ---- what the contract of the call says of the worked file: the answer; the TIC in front of the output, its header the pieces of 01 joined; the records
+-- ---- what the contract of the call says of the worked file: the answer, and how it is printed; the TIC in front of the output, its header the pieces of 01 joined; the records
 pub record AsWorked (out : List ℕ) (records : List Record) (r : Answer) (marks′ : List ℕ) (records′ : List Record) (out′ : List ℕ) : Type 0 where
   pub answer : r ≡ Answered workedSummary
+  pub line : answerText r ≡ workedLine
   pub header : take 196 out′ ≡ workedHeader
   pub tic : out′ ≡ splice out 0 workedTic
   pub told : records′ ≡ workedRecords ++ drop 3 records
@@ -187,8 +197,10 @@ pub worked-file : (room : ℕ) (out : List ℕ) → 3 ≤ room → 1136 ≤ leng
     → Judged (workedWith room out) records r marks′ records′ out′ → AsWorked out records r marks′ records′ out′
 worked-file room out enough long records r marks′ records′ out′ j =
     let tic = j .outThen ∙ worked-out room out enough long in
+    let answer = j .answer ∙ worked-answer room out enough long in
     record {
-      answer = j .answer ∙ worked-answer room out enough long;
+      answer = answer;
+      line = ap answerText answer ∙ printed;
       header = ap (take 196) tic ∙ front out;
       tic = tic;
       told = j .recordsThen ∙ worked-records room out enough long records;
