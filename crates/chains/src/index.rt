@@ -6,6 +6,12 @@ ghost use Prim.Native.Nat.{ℕ, _+_, _<_};
 ghost use lib.ListN.{length, getD};
 ghost use Rattle.chains.specs.Index.{Ruled, Indexed, Entered};
 
+// For each hash the last line that has it, counted from 1, and 0 where none has.
+pub type Heads = [u16; 4096];
+
+// For each line the nearest one before it with its hash, counted from 1, and 0 where there is none.
+pub type Links = [u16; 9999];
+
 fn clear(heads: &mut [u16])
     requires { ⌜ length (now heads) ≡ 4096 ⌝ }
     ensures { λ _. ⌜ ((h : ℕ) → h < 4096 → getD (now (heads .exit)) h 0 ≡ 0) ⌝ }
@@ -62,8 +68,8 @@ pub fn index_lines(
     file: &[u8],
     spans: &[usize],
     n: usize,
-    heads: &mut [u16; 4096],
-    prev: &mut [u16; 9999],
+    heads: &mut Heads,
+    prev: &mut Links,
 )
     requires { ⌜ Ruled layout (now file) (now spans) n ⌝ }
     ensures { λ _. ⌜ Indexed layout (now (file .entry)) (now (spans .entry)) n (now (heads .exit)) (now (prev .exit)) ⌝ }

@@ -3,6 +3,8 @@ mod hash;
 mod index;
 mod search;
 
+pub use index::Heads;
+pub use index::Links;
 pub use index::index_lines;
 pub use search::all_different;
 pub use search::is_member;

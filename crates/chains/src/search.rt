@@ -1,4 +1,6 @@
 use crate::hash::hash_line;
+use crate::index::Heads;
+use crate::index::Links;
 use crate::index::index_lines;
 use lines::Layout;
 use lines::agree_across;
@@ -20,7 +22,7 @@ fn walk(
     layout: Layout,
     file: &[u8],
     spans: &[usize],
-    prev: &[u16; 9999],
+    prev: &Links,
     start: usize,
     ts: &[usize],
     other: &[u8],
@@ -45,8 +47,8 @@ pub fn is_member(
     file: &[u8],
     spans: &[usize],
     n: usize,
-    heads: &[u16; 4096],
-    prev: &[u16; 9999],
+    heads: &Heads,
+    prev: &Links,
     ts: &[usize],
     other: &[u8],
 ) -> bool
@@ -65,7 +67,7 @@ pub fn is_repeated(
     file: &[u8],
     spans: &[usize],
     n: usize,
-    prev: &[u16; 9999],
+    prev: &Links,
     k: usize,
 ) -> bool
     requires { ⌜ Ruled layout (now file) (now spans) n ⌝ }
@@ -77,7 +79,7 @@ pub fn is_repeated(
     walk(layout, file, spans, prev, link_of(prev[k]), spans, line)
 }
 
-fn none_repeated(layout: Layout, file: &[u8], spans: &[usize], n: usize, prev: &[u16; 9999]) -> bool
+fn none_repeated(layout: Layout, file: &[u8], spans: &[usize], n: usize, prev: &Links) -> bool
     requires { ⌜ Ruled layout (now file) (now spans) n ⌝ }
     requires { ⌜ Linked layout (now file) (now spans) n (now prev) ⌝ }
     ensures { λ r. ⌜ r ≡ allDifferent layout (now (file .entry)) (now (spans .entry)) n ⌝ }

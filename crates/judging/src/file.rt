@@ -1,4 +1,6 @@
 use crate::line::judge_line;
+use chains::Heads;
+use chains::Links;
 use tif::Side;
 use tst::index_stations;
 use verdicts::word_of;
@@ -20,8 +22,8 @@ fn judge_next(
     marks: &mut [u8],
     tif: &[u8],
     tst: &[u8],
-    heads: &[u16; 4096],
-    prev: &[u16; 9999],
+    heads: &Heads,
+    prev: &Links,
     words: &mut [u64],
     k: usize,
 )
@@ -41,8 +43,8 @@ fn judge_each(
     marks: &mut [u8],
     tif: &[u8],
     tst: &[u8],
-    heads: &[u16; 4096],
-    prev: &[u16; 9999],
+    heads: &Heads,
+    prev: &Links,
     words: &mut [u64],
 )
     requires { ⌜ Given (now book) (now debits) (now marks) (now tif) (length (now words)) × StationsIndexed (now tst) (now heads) (now prev) ⌝ }

@@ -1,3 +1,5 @@
+use chains::Heads;
+use chains::Links;
 use cover::Cover;
 use cover::cover_at;
 use debits::Taken;
@@ -120,8 +122,8 @@ pub fn judge_line(
     marks: &mut [u8],
     tif: &[u8],
     tst: &[u8],
-    heads: &[u16; 4096],
-    prev: &[u16; 9999],
+    heads: &Heads,
+    prev: &Links,
     k: usize,
 ) -> Verdict
     requires { ⌜ Given (now book) (now debits) (now marks) (now tif) (k + 1) × StationsIndexed (now tst) (now heads) (now prev) ⌝ }

@@ -2,6 +2,8 @@ use crate::columns::EXIT_SPANS;
 use crate::columns::STATION_SPANS;
 use crate::columns::TST;
 use crate::form::is_lent;
+use chains::Heads;
+use chains::Links;
 use chains::index_lines;
 use chains::is_member;
 ghost use mathlib.Core.Path.{_≡_};
@@ -24,7 +26,7 @@ fn station_count(tst: &[u8]) -> usize
 }
 
 // Chains the lines of a lent table by their triples. Where none is lent there is nothing to index.
-pub fn index_stations(tst: &[u8], heads: &mut [u16; 4096], prev: &mut [u16; 9999])
+pub fn index_stations(tst: &[u8], heads: &mut Heads, prev: &mut Links)
     requires { ⌜ tableSound (now tst) ≡ true ⌝ }
     ensures { λ _. ⌜ StationsIndexed (now (tst .entry)) (now (heads .exit)) (now (prev .exit)) ⌝ }
 {
@@ -35,7 +37,7 @@ pub fn index_stations(tst: &[u8], heads: &mut [u16; 4096], prev: &mut [u16; 9999
 }
 
 // Whether no table is lent, or one of its lines has the exit actor, station and lane of the TIF's line (L9).
-pub fn is_known_station(tst: &[u8], heads: &[u16; 4096], prev: &[u16; 9999], line: &[u8]) -> bool
+pub fn is_known_station(tst: &[u8], heads: &Heads, prev: &Links, line: &[u8]) -> bool
     requires { ⌜ StationsIndexed (now tst) (now heads) (now prev) × (length (now line) ≡ lineWidth) ⌝ }
     ensures { λ r. ⌜ r ≡ isKnownStation (now (tst .entry)) (now (line .entry)) ⌝ }
 {
