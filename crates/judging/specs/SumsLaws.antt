@@ -7,11 +7,10 @@ use native.Mathlib.Omega.{arith}
 use lib.ListN.{length}
 use Rattle.lines.specs.Below.{sumBelow}
 use Rattle.lines.specs.BelowLaws.{sum-both, sum-le}
-use Rattle.lines.specs.Number.{allDigits, numberOf}
+use Rattle.lines.specs.Number.{numberOf}
 use Rattle.passage.specs.Passage.{grossAmount}
 use Rattle.passage.specs.PassageLaws.{gross-small}
 use Rattle.tif.specs.Body.{lineAt, amountAt, bodyTotal}
-use Rattle.verdicts.specs.Record.{valueOf}
 use Rattle.judging.specs.Sums.{isAccepted, isCounted, oneAt, amountOf, countOf, totalOf, Worded}
 
 -- of a line that is refused or accepted just one is counted
@@ -47,10 +46,6 @@ total-within true tif words = omega (arith, amounts-add tif words)
 total-within false tif words = omega (arith, amounts-add tif words)
 
 -- ---- no sum wraps
-pub value-digits : (s : List ℕ) → allDigits s ≡ true → valueOf s ≡ numberOf s
-unfolding valueOf
-value-digits s e = rw e
-
 one-small : (refused : Bool) (words : List ℕ) (i : ℕ) → oneAt refused words i ≤ 1
 unfolding oneAt
 one-small refused words i = go (isCounted refused words i)

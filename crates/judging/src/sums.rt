@@ -1,9 +1,9 @@
 use lines::Count;
 use lines::Gross;
 use lines::field;
+use lines::value_of;
 use passage::GROSS_AMOUNT;
 use tif::tif_line;
-use verdicts::value_of;
 ghost use mathlib.Core.Path.{_≡_};
 ghost use Prim.Native.Nat.{_<_};
 ghost use lib.ListN.{length};

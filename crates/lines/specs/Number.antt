@@ -29,6 +29,10 @@ bigEndian s = valueBelow 256 0 (length s) s
 unfoldable pub readDigits : List ℕ → Digits
 readDigits s = cond (allDigits s) (Value (numberOf s)) NotDigits
 
+-- its value, and zero where it is not digits
+unfoldable pub valueOf : List ℕ → ℕ
+valueOf s = cond (allDigits s) (numberOf s) 0
+
 -- the last `width` decimal digits of a number, with zeros in front
 unfoldable pub digitsOf : ℕ → ℕ → List ℕ
 digitsOf zero v = []

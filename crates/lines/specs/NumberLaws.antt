@@ -12,7 +12,7 @@ use Rattle.lines.specs.Below.{allBelow}
 use Rattle.lines.specs.BelowLaws.{all-at}
 use Rattle.lines.specs.Class.{isOf, allOf, allBytes, byteIs}
 use Rattle.lines.specs.ClassLaws.{digit-is}
-use Rattle.lines.specs.Number.{valueBelow, allDigits, numberOf, readDigits, digitsOf}
+use Rattle.lines.specs.Number.{valueBelow, allDigits, numberOf, readDigits, digitsOf, valueOf}
 use Rattle.lines.specs.declared.class.Class.the-variants.{Digit}
 use Rattle.lines.specs.declared.number.Digits.the-variants.{Value, NotDigits}
 
@@ -65,6 +65,10 @@ read-bad s e = go (allDigits s) e
     go : (b : Bool) → cond b (Value (numberOf s)) NotDigits ≡ NotDigits → b ≡ false
     go true p = let z : _≡_ {A = ℕ} 0 1 = cc in absurd (omega arith)
     go false p = refl
+
+pub value-digits : (s : List ℕ) → allDigits s ≡ true → valueOf s ≡ numberOf s
+unfolding valueOf
+value-digits s e = rw e
 
 -- ---- a number written as digits
 pub digits-length : (w v : ℕ) → length (digitsOf w v) ≡ w

@@ -1,9 +1,10 @@
 use crate::class::Class;
 use crate::class::is_of;
+ghost use mathlib.Core.Bool.{true};
 ghost use mathlib.Core.Path.{_≡_};
 ghost use Prim.Native.Nat.{_≤_};
 ghost use lib.ListN.{length};
-ghost use Rattle.lines.specs.Number.{readDigits, BigEndian};
+ghost use Rattle.lines.specs.Number.{allDigits, numberOf, readDigits, valueOf, BigEndian};
 
 // What a field that should be digits holds.
 pub enum Digits {
@@ -33,6 +34,25 @@ pub fn read_digits(s: &[u8]) -> Digits
         i += 1;
     }
     Digits::Value(v)
+}
+
+// The value of a field of at most 15 digits, and zero where it is not digits.
+pub fn value_of(s: &[u8]) -> u64
+    requires { ⌜ length (now s) ≤ 15 ⌝ }
+    ensures { λ r. ⌜ r ≡ valueOf (now (s .entry)) ⌝ }
+{
+    match read_digits(s) {
+        Digits::Value(v) => v,
+        Digits::NotDigits => 0,
+    }
+}
+
+// The number of a field that is known to be digits.
+pub fn number_of(s: &[u8]) -> u64
+    requires { ⌜ (length (now s) ≤ 15) × (allDigits (now s) ≡ true) ⌝ }
+    ensures { λ r. ⌜ r ≡ numberOf (now (s .entry)) ⌝ }
+{
+    value_of(s)
 }
 
 // Reads a big-endian number of at most four bytes.

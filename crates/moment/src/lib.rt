@@ -1,10 +1,9 @@
 // Moments YYYYMMDDhhmmss and dates YYYYMMDD, as written.
 use lines::Class;
 use lines::Columns;
-use lines::Digits;
 use lines::all_of;
 use lines::field;
-use lines::read_digits;
+use lines::number_of;
 ghost use mathlib.Core.Path.{_≡_};
 ghost use mathlib.Core.Bool.{true};
 ghost use Prim.Native.Nat.{_≤_, _<_};
@@ -79,10 +78,7 @@ fn number_in(s: &[u8], c: Columns) -> u64
     requires { ⌜ Numbered (now s) c ⌝ }
     ensures { λ r. ⌜ r ≡ numberOf (fieldOf c (now (s .entry))) ⌝ }
 {
-    match read_digits(field(s, c)) {
-        Digits::Value(v) => v,
-        Digits::NotDigits => 0,
-    }
+    number_of(field(s, c))
 }
 
 // The first part of the date that is wrong, in digits of which the first eight are the date.

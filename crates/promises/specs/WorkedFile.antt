@@ -10,7 +10,7 @@ use Rattle.lines.specs.Below.{allBelow, someBelow, firstBelow, tableBelow, join
 use Rattle.lines.specs.Class.{isDigit, isCapital, isOf, byteIs, allBytes, allOf, placeOf, paddedWith, filledWith}
 use Rattle.lines.specs.Columns.{cols}
 use Rattle.lines.specs.FirstOf.{firstOf}
-use Rattle.lines.specs.Number.{valueBelow, allDigits, numberOf, bigEndian, digitsOf}
+use Rattle.lines.specs.Number.{valueBelow, allDigits, numberOf, valueOf, bigEndian, digitsOf}
 use Rattle.lines.specs.Rows.{headerOf, lineOf, footerOf, countFits}
 use Rattle.lines.specs.Same.{differAt, firstDifference, same, before}
 use Rattle.lines.specs.Spans.{spanAgrees, agreeAcross, agreeOn}
@@ -38,7 +38,6 @@ use Rattle.debits.specs.Form.{linesSound, marksSound, debitsSound}
 use Rattle.debits.specs.Taking.{placeTaken, taken}
 use Rattle.debits.specs.Credits.{marksAfter}
 use Rattle.verdicts.specs.LineTests.{isLawfulType, fieldsInForm, isFromSender, isKnownFuel, isKnownVehicle, platesInForm, testLine}
-use Rattle.verdicts.specs.Record.{valueOf}
 use Rattle.verdicts.specs.Tables.{codeIs, isListed, codesOf, tariffClasses, emissions, fuels}
 use Rattle.verdicts.specs.Verdict.{wordOf, acceptanceOf, verdictOf}
 use Rattle.verdicts.specs.declared.record.Record.{Record}

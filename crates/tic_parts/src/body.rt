@@ -1,9 +1,9 @@
-use crate::number::number_of;
 use lines::Class;
 use lines::Gross;
 use lines::all_of;
 use lines::field;
 use lines::line_of;
+use lines::number_of;
 use passage::GROSS_AMOUNT;
 use tic_text::CODE;
 use tic_text::TIC;

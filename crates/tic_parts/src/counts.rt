@@ -1,5 +1,5 @@
-use crate::number::number_of;
 use lines::field;
+use lines::number_of;
 use tic_text::ACCEPTED_AGAIN;
 use tic_text::REJECTED_AGAIN;
 use tic_text::TicHead;

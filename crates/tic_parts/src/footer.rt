@@ -1,8 +1,8 @@
-use crate::number::number_of;
 use lines::Class;
 use lines::Gross;
 use lines::all_of;
 use lines::field;
+use lines::number_of;
 use tic_text::ACCEPTED_SUM;
 use tic_text::FOOTER_FILLER;
 use tic_text::REJECTED_SUM;

@@ -1,9 +1,9 @@
-use crate::number::number_of;
 use lines::Class;
 use lines::Count;
 use lines::all_of;
 use lines::field;
 use lines::is_same;
+use lines::number_of;
 use moment::is_moment;
 use tic_text::ACCEPTANCE;
 use tic_text::ACCEPTED;

@@ -3,7 +3,6 @@ mod body;
 mod counts;
 mod footer;
 mod header;
-mod number;
 
 pub use body::lines_formed;
 pub use body::listed_sum;

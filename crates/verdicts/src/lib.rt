@@ -13,7 +13,6 @@ pub use line_tests::plates_in_form;
 pub use line_tests::test_line;
 pub use record::Record;
 pub use record::record_of;
-pub use record::value_of;
 pub use verdict::Verdict;
 pub use verdict::verdict_of;
 pub use verdict::word_of;

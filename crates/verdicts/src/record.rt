@@ -1,16 +1,14 @@
 use crate::verdict::Verdict;
-use lines::Digits;
 use lines::Gross;
 use lines::Net;
 use lines::field;
-use lines::read_digits;
+use lines::value_of;
 use passage::GROSS_AMOUNT;
 use passage::NET_FEE;
 ghost use mathlib.Core.Path.{_≡_};
-ghost use Prim.Native.Nat.{_≤_};
 ghost use lib.ListN.{length};
 ghost use Rattle.passage.specs.Passage.{lineWidth};
-ghost use Rattle.verdicts.specs.Record.{valueOf, recordOf};
+ghost use Rattle.verdicts.specs.Record.{recordOf};
 
 // What is kept of a line: its number counted from 1, its amount with VAT, its verdict, and its fee without VAT.
 pub struct Record {
@@ -18,17 +16,6 @@ pub struct Record {
     pub gross: Gross,
     pub verdict: Verdict,
     pub net: Net,
-}
-
-// The number that a field of digits writes, and zero where it is not digits.
-pub fn value_of(s: &[u8]) -> u64
-    requires { ⌜ length (now s) ≤ 15 ⌝ }
-    ensures { λ r. ⌜ r ≡ valueOf (now (s .entry)) ⌝ }
-{
-    match read_digits(s) {
-        Digits::Value(v) => v,
-        Digits::NotDigits => 0,
-    }
 }
 
 // The record of a line with its verdict.

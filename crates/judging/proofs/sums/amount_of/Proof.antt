@@ -5,9 +5,9 @@ use borrow.Author.Needs.{needs}
 use lib.ListN.{length-take}
 use Rattle.tif.specs.Body.{lineAt, amountAt}
 use Rattle.judging.specs.Sums.{amountOf}
-use Rattle.judging.specs.SumsLaws.{value-digits}
 use Rattle.lines.specs.Columns.{cols}
-use Rattle.verdicts.specs.Record.{valueOf}
+use Rattle.lines.specs.Number.{valueOf}
+use Rattle.lines.specs.NumberLaws.{value-digits}
 use Rattle.judging.specs.StepLaws.{line-whole}
 use Rattle.judging.proofs.sums.amount_of.Statement.{statement}
 use Rattle.judging.proofs.sums.amount_of.Tie as tie

@@ -3,7 +3,7 @@ use mathlib.Core.Path.{_≡_, ap, _∙_}
 use lib.ListN.{drop}
 use borrow.Author.Needs.{needs}
 use lib.ListN.{length-take}
-use Rattle.verdicts.specs.Record.{valueOf}
+use Rattle.lines.specs.Number.{valueOf}
 use Rattle.passage.specs.Passage.{grossAmount, netFee}
 use Rattle.verdicts.proofs.record.record_of.Statement.{statement}
 use Rattle.verdicts.proofs.record.record_of.Tie as tie

@@ -1,11 +1,10 @@
 use mathlib.Core.Path.{_≡_, sym, _∙_}
 use borrow.Author.Needs.{needs}
-use Rattle.lines.specs.Number.{readDigits}
+use Rattle.lines.specs.Number.{readDigits, valueOf}
 use Rattle.lines.specs.NumberLaws.{read-good, read-bad}
 use Rattle.lines.specs.declared.number.Digits.{Digits}
-use Rattle.verdicts.specs.Record.{valueOf}
-use Rattle.verdicts.proofs.record.value_of.Statement.{statement}
-use Rattle.verdicts.proofs.record.value_of.Tie as tie
+use Rattle.lines.proofs.number.value_of.Statement.{statement}
+use Rattle.lines.proofs.number.value_of.Tie as tie
 
 read-digits-requires : tie.Need-read-digits-requires
 read-digits-requires c κs = search needs
