@@ -29,6 +29,7 @@ fn judged_answer(refused: usize) -> FileAnswer
 }
 
 // The answer for a file with this acceptance, of which so many lines are refused.
+// `_whole` has a name so that the proof can tell the case; nothing of it is used.
 pub fn file_answer(acceptance: Acceptance, refused: usize) -> FileAnswer
     ensures { λ r. ⌜ r ≡ fileAnswer acceptance refused ⌝ }
 {
