@@ -2,15 +2,13 @@
 use mathlib.Core.Path.{_≡_, subst, sym}
 use mathlib.Core.Bool.{Bool, true, false, _&&_}
 use mathlib.Core.List.{List}
-use Prim.Native.Nat.{ℕ, zero, suc, _+_, _*_, _≤_, _<_}
-use native.Mathlib.Nat.{not-suc-le-zero}
+use Prim.Native.Nat.{ℕ, _+_, _*_, _≤_, _<_}
 use native.Mathlib.Omega.{arith}
 use lib.ListN.{length, take, drop, length-drop}
 use lib.Seq.{length-take-le}
 use lib.Dec.{T, eqb, leb, leb→le, eqb→eq}
 use borrow.Author.Tests.{le-leb, lt-leb}
-use Rattle.lines.specs.Below.{sumBelow}
-use Rattle.lines.specs.BelowLaws.{below-suc, sum-zero, sum-suc}
+use Rattle.lines.specs.BelowLaws.{sum-zero, sum-suc, sum-within}
 use Rattle.lines.specs.BoolLaws.{and-left, and-right, and-false-left}
 use Rattle.job_form.specs.Form.{lengthAt, bodyPlace, bodyOf, isJob}
 
@@ -29,11 +27,6 @@ place-zero job = omega (arith, sum-zero (lengthAt job))
 pub place-suc : (job : List ℕ) (k : ℕ) → bodyPlace job (k + 1) ≡ bodyPlace job k + lengthAt job k
 unfolding bodyPlace
 place-suc job k = omega (arith, sum-suc (lengthAt job) k)
-
-sum-within : (f : ℕ → ℕ) (n k : ℕ) → k < n → sumBelow k f + f k ≤ sumBelow n f
-unfolding sumBelow
-sum-within f zero k l = absurd (not-suc-le-zero l)
-sum-within f (suc n) k l = below-suc k n l (λ e. rw e (omega arith)) (λ h. omega (arith, sum-within f n k h))
 
 -- ---- what is no job, and what is one
 pub too-long : (job : List ℕ) → 65536 < length job → isJob job ≡ false

@@ -213,6 +213,12 @@ module _ (f : ℕ → ℕ) where
   unfolding sumBelow
   sum-suc i = rw (add-one i)
 
+-- what is summed before k, and at k, is within what is summed before n
+pub sum-within : (f : ℕ → ℕ) (n k : ℕ) → k < n → sumBelow k f + f k ≤ sumBelow n f
+unfolding sumBelow
+sum-within f zero k h = absurd (not-suc-le-zero h)
+sum-within f (suc n) k h = below-suc k n h (λ e. rw e (omega arith)) (λ l. omega (arith, sum-within f n k l))
+
 -- two sums side by side
 pub sum-both : (f g h : ℕ → ℕ) (k : ℕ) → ((i : ℕ) → i < k → f i + g i ≡ h i) → sumBelow k f + sumBelow k g ≡ sumBelow k h
 unfolding sumBelow
