@@ -5,7 +5,7 @@ use lines::Gross;
 use tif::Side;
 
 // What is wrong with a call: E1 to E6, E8, E7.
-#[derive(Drop)]
+#[derive(Clone, Copy)]
 pub enum CallFault {
     FileName,
     ReceptionMoment,
@@ -18,14 +18,14 @@ pub enum CallFault {
 }
 
 // What a check of the call finds.
-#[derive(Drop)]
+#[derive(Clone, Copy)]
 pub enum CallCheck {
     Faulty(CallFault),
     Sound,
 }
 
 // What becomes of the file: 00 to 05.
-#[derive(Drop)]
+#[derive(Clone, Copy)]
 pub enum FileAnswer {
     Accepted,
     PartlyAccepted,
@@ -36,7 +36,7 @@ pub enum FileAnswer {
 }
 
 // What a call that is answered tells.
-#[derive(Drop)]
+#[derive(Clone, Copy)]
 pub struct Summary {
     pub answer: FileAnswer,
     pub side: Side,
@@ -49,7 +49,7 @@ pub struct Summary {
     pub length: usize,
 }
 
-#[derive(Drop)]
+#[derive(Clone, Copy)]
 pub enum Answer {
     Refused(CallFault),
     Answered(Summary),

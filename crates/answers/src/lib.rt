@@ -1,4 +1,6 @@
 // What a call can be answered: E1 to E6 and E8 in order, what is told of a file, the room that is asked for, and the TIC of its refused lines.
+#![tactic(auto)]
+
 mod answer;
 mod card;
 mod fault;

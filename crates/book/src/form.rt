@@ -10,7 +10,7 @@ use moment::{Moment, check_moment, is_real};
 use plate::plate_in_book;
 
 // What is wrong with a period by itself. A moment that is not real goes with what is wrong with it.
-#[derive(Drop)]
+#[derive(Clone, Copy)]
 enum PeriodForm {
     InForm,
     WrongMoment(Moment),
@@ -18,7 +18,7 @@ enum PeriodForm {
 }
 
 // Whether a book is of the form of the paper (E5).
-#[derive(Drop)]
+#[derive(Clone, Copy)]
 pub enum BookForm {
     Sound,
     OutOfForm,

@@ -1,4 +1,6 @@
 // The agreement book: where its parts stand, and its form (E5).
+#![tactic(auto)]
+
 mod form;
 mod layout;
 

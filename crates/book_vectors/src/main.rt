@@ -1,4 +1,6 @@
 // Runs the form of agreement books and what covers a passage over cases from standard input, and prints one line for each.
+#![tactic(auto)]
+
 ghost use Rattle.std.specs.Prelude.{◌≡◌, true};
 ghost use Rattle.book.specs.Layout.{width};
 ghost use Rattle.book.specs.Form.{book_sound};

@@ -1,4 +1,6 @@
 // A search over fixed-width lines in linear time: lines with one hash are chained, each to the nearest before it.
+#![tactic(auto)]
+
 mod hash;
 mod index;
 mod search;

@@ -8,14 +8,14 @@ use book::{END, NATION, PLATE, START, agreements_of, offset_of, pan_of, period_o
 use lines::{Class, all_of, field, is_before, is_same};
 
 // An agreement and a period of it, both counted from 1.
-#[derive(Drop)]
+#[derive(Clone, Copy)]
 pub struct Place {
     pub agreement: usize,
     pub period: usize,
 }
 
 // What covers a passage.
-#[derive(Drop)]
+#[derive(Clone, Copy)]
 pub enum Cover {
     At(Place),
     Nothing,
@@ -122,7 +122,7 @@ fn reached(book: &[u8], pan: &[u8], i: usize) -> bool
 }
 
 // The agreements from low up to high, where a PAN may still be.
-#[derive(Drop)]
+#[derive(Clone, Copy)]
 struct Range {
     low: usize,
     high: usize,

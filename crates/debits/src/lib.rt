@@ -1,4 +1,6 @@
 // Open debits and their marks: whether they are of the right form (E6), and the debit that a credit takes (L8).
+#![tactic(auto)]
+
 mod form;
 mod taking;
 

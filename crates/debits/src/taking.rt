@@ -6,7 +6,7 @@ use lines::{agree_on, line_of};
 use passage::CREDIT_SPANS;
 
 // What a credit took: a debit, by its number counted from 1, or none.
-#[derive(Drop)]
+#[derive(Clone, Copy)]
 pub enum Taken {
     Debit(usize),
     NoDebit,

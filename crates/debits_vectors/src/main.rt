@@ -1,4 +1,6 @@
 // Runs the form of open debits and the taking of debits over cases from standard input, and prints one line for each.
+#![tactic(auto)]
+
 ghost use Rattle.std.specs.Prelude.{◌*◌, ◌≤◌, length};
 ghost use Rattle.debits_vectors.specs.Held.{Fits};
 
@@ -12,7 +14,7 @@ const MOST: usize = 40;
 const ROOM: usize = MOST * WIDTH;
 
 // Whether to go on, and how many debits are held.
-#[derive(Drop)]
+#[derive(Clone, Copy)]
 struct Held {
     going: bool,
     count: usize,

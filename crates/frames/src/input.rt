@@ -3,7 +3,7 @@ ghost use Rattle.std.specs.Prelude.{◌≤◌, length};
 use libc::STDIN_FILENO;
 
 // What stands where a case begins.
-#[derive(Drop)]
+#[derive(Clone, Copy)]
 pub enum Kind {
     Of(u8),
     End,
@@ -11,7 +11,7 @@ pub enum Kind {
 
 // A part that was read: whether whole, and how many bytes it has.
 // After one that is too long for its buffer, or breaks off, nothing more is to be read.
-#[derive(Drop)]
+#[derive(Clone, Copy)]
 pub struct Part {
     pub whole: bool,
     pub size: usize,

@@ -1,5 +1,7 @@
 // Framed cases for the programs that run vectors: a kind byte, then parts, each with its length before it; and what such a program prints.
 // No contract can say which bytes are read or written.
+#![tactic(auto)]
+
 mod input;
 mod output;
 

@@ -1,4 +1,6 @@
 // Runs the functions of lines, moment and plate over cases from standard input, and prints one line for each.
+#![tactic(auto)]
+
 mod answers;
 
 use frames::{Kind, print_line_feed, read_kind, read_part};

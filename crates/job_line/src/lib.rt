@@ -1,4 +1,6 @@
 // The line that the program prints for an answer.
+#![tactic(auto)]
+
 mod line;
 mod number;
 

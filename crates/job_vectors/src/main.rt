@@ -1,4 +1,6 @@
 // Runs jobs from standard input, each a part, and prints the line of each.
+#![tactic(auto)]
+
 use frames::{Kind, print_bytes, read_kind, read_part};
 use job::answer_job;
 

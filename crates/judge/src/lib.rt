@@ -1,4 +1,6 @@
 // The call: what is lent is judged, and the TIC, the records and the marks are written once nothing can be refused any more.
+#![tactic(auto)]
+
 mod call;
 mod core;
 mod records;

@@ -1,4 +1,6 @@
 // Runs whole calls from standard input, and prints for each its answer, the marks afterwards, the record of each line judged and all of the output lent.
+#![tactic(auto)]
+
 ghost use Rattle.std.specs.Prelude.{ℕ, ◌<◌};
 ghost use Rattle.judge.specs.Records.{LineKnown};
 

@@ -6,14 +6,14 @@ use passage::GROSS_AMOUNT;
 use tif::tif_line;
 
 // How many lines, and the sum of their amounts with VAT.
-#[derive(Drop)]
+#[derive(Clone, Copy)]
 pub struct Tally {
     pub count: Count,
     pub amount: Gross,
 }
 
 // The lines of a file that were accepted, and those that were refused.
-#[derive(Drop)]
+#[derive(Clone, Copy)]
 pub struct Sums {
     pub accepted: Tally,
     pub refused: Tally,

@@ -1,4 +1,6 @@
 // Judges files from standard input, each with its book, its debits and their marks, and prints for each its words, the marks afterwards and the sums.
+#![tactic(auto)]
+
 ghost use Rattle.std.specs.Prelude.{◌≡◌, true, length};
 ghost use Rattle.book.specs.Form.{book_sound};
 ghost use Rattle.book.specs.Layout.{width};

@@ -2,7 +2,7 @@ ghost use Rattle.std.specs.Prelude.{◌≡◌};
 ghost use Rattle.lines.specs.Class.{is_digit, is_capital, is_of, all_of, place_of, filled_with};
 
 // A class of characters.
-#[derive(Drop)]
+#[derive(Clone, Copy)]
 pub enum Class {
     Digit,
     Capital,

@@ -2,7 +2,7 @@ ghost use Rattle.std.specs.Prelude.{◌≡◌, length};
 ghost use Rattle.lines.specs.Columns.{field_of, Inside};
 
 // A field of a line: its first and its last column, counted from 1 as on paper.
-#[derive(Drop)]
+#[derive(Clone, Copy)]
 pub struct Columns {
     pub from: usize,
     pub to: usize,

@@ -1,15 +1,15 @@
 ghost use Rattle.std.specs.Prelude.{◌≡◌, ◌+◌, ◌^◌, ◌<◌, eqb};
 
 // A fee without VAT, in 1/100 NOK. Nothing is added to it or compared with it.
-#[derive(Drop)]
+#[derive(Clone, Copy)]
 pub struct Net(pub u64);
 
 // An amount with VAT, in 1/100 NOK.
-#[derive(Drop)]
+#[derive(Clone, Copy)]
 pub struct Gross(pub u64);
 
 // A number of records or transactions.
-#[derive(Drop)]
+#[derive(Clone, Copy)]
 pub struct Count(pub u64);
 
 impl Gross {

@@ -1,4 +1,6 @@
 // Bytes and columns: what every file, book and list of this library is made of.
+#![tactic(auto)]
+
 mod class;
 mod columns;
 mod kinds;

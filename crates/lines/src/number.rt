@@ -4,7 +4,7 @@ ghost use Rattle.lines.specs.Number.{all_digits, number_of, read_digits, value_o
 use crate::class::{Class, is_of};
 
 // What a field that should be digits holds.
-#[derive(Drop)]
+#[derive(Clone, Copy)]
 pub enum Digits {
     Value(u64),
     NotDigits,

@@ -4,7 +4,7 @@ ghost use Rattle.lines.specs.Rows.{line_place, file_length, header_of, line_of, 
 use crate::class::{Class, place_of};
 
 // A file of fixed-width rows: how wide its header, each line and its footer are, line feeds included.
-#[derive(Drop)]
+#[derive(Clone, Copy)]
 pub struct Layout {
     pub header: usize,
     pub line: usize,
@@ -12,7 +12,7 @@ pub struct Layout {
 }
 
 // How many lines a file has.
-#[derive(Drop)]
+#[derive(Clone, Copy)]
 pub enum Lines {
     Of(usize),
     OutOfForm,

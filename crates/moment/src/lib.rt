@@ -1,4 +1,6 @@
 // Moments YYYYMMDDhhmmss and dates YYYYMMDD, as written.
+#![tactic(auto)]
+
 ghost use Rattle.std.specs.Prelude.{◌≡◌, true, ◌≤◌, ◌<◌, length};
 ghost use Rattle.lines.specs.Columns.{field_of};
 ghost use Rattle.lines.specs.Number.{all_digits, number_of};
@@ -8,7 +10,7 @@ ghost use Rattle.moment.specs.Moment.{Numbered, date_fault, time_fault, check_da
 use lines::{Class, Columns, all_of, field, number_of};
 
 // A part of a moment, or a character that is no digit.
-#[derive(Drop)]
+#[derive(Clone, Copy)]
 pub enum MomentPart {
     Character,
     Year,
@@ -20,7 +22,7 @@ pub enum MomentPart {
 }
 
 // Whether a moment or a date is real, and the first part that is wrong.
-#[derive(Drop)]
+#[derive(Clone, Copy)]
 pub enum Moment {
     Real,
     Wrong(MomentPart),

@@ -1,4 +1,6 @@
 // A line of a TIF body: one passage. Its columns, counted from 1 as AP-3.7 (2.2) counts them.
+#![tactic(auto)]
+
 use lines::Columns;
 
 // How wide a line is, its line feed included.

@@ -1,4 +1,6 @@
 // Number plates: the bytes that they are written in, and a plate with its nation.
+#![tactic(auto)]
+
 mod plates;
 mod set;
 

@@ -1,4 +1,6 @@
 // Reads a job from standard input, judges its call, and prints one line.
+#![tactic(auto)]
+
 use job::answer_job;
 use libc::{STDIN_FILENO, STDOUT_FILENO};
 

@@ -1,4 +1,6 @@
 // Reading a TIC, showing its listed lines, and writing what was read.
+#![tactic(auto)]
+
 mod listed;
 mod reading;
 mod rewriting;

@@ -6,7 +6,7 @@ use crate::reading::read_tic;
 use tic_text::{TIC, TicFault, TicReading};
 
 // Where listed line k stands: the place of the line and that of its code; or T6; or why the TIC does not read.
-#[derive(Drop)]
+#[derive(Clone, Copy)]
 pub enum Listed {
     At(usize, usize),
     NoSuchLine,

@@ -14,7 +14,7 @@ use tic_text::{
 };
 
 // What became of writing a TIC that was read: why it does not read, E7, or the length written.
-#[derive(Drop)]
+#[derive(Clone, Copy)]
 pub enum Rewritten {
     Unreadable(TicFault),
     TooShort,

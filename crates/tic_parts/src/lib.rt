@@ -1,4 +1,6 @@
 // The parts of a TIC that is read: header, counts, listed lines and footer, each by its own tests.
+#![tactic(auto)]
+
 mod body;
 mod counts;
 mod footer;

@@ -1,4 +1,6 @@
 // The TIC as a text: its columns, the values that it has, and how it is rendered.
+#![tactic(auto)]
+
 mod columns;
 mod header_text;
 mod text;

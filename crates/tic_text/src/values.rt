@@ -2,7 +2,7 @@ use lines::{Count, Gross};
 use tif::Side;
 
 // The numbers of a header.
-#[derive(Drop)]
+#[derive(Clone, Copy)]
 pub struct TicHead {
     pub acceptance: u64,
     pub side: Side,
@@ -11,14 +11,14 @@ pub struct TicHead {
 }
 
 // The amounts with VAT of a footer.
-#[derive(Drop)]
+#[derive(Clone, Copy)]
 pub struct TicSums {
     pub accepted: Gross,
     pub rejected: Gross,
 }
 
 // What reading gives: the header's numbers, how many lines are listed, and the footer's sums.
-#[derive(Drop)]
+#[derive(Clone, Copy)]
 pub struct TicValues {
     pub head: TicHead,
     pub listed: usize,
@@ -26,7 +26,7 @@ pub struct TicValues {
 }
 
 // Why a TIC does not read: T1 to T5.
-#[derive(Drop)]
+#[derive(Clone, Copy)]
 pub enum TicFault {
     Framing,
     Header,
@@ -36,7 +36,7 @@ pub enum TicFault {
 }
 
 // What reading a TIC gives.
-#[derive(Drop)]
+#[derive(Clone, Copy)]
 pub enum TicReading {
     Unreadable(TicFault),
     Values(TicValues),

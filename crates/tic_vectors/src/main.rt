@@ -1,4 +1,6 @@
 // Reads, shows listed lines of, and rewrites TICs from standard input, and prints one line for each case.
+#![tactic(auto)]
+
 use frames::{Kind, print_bytes, print_line_feed, print_number, read_kind, read_part};
 use tic::{Listed, Rewritten, fault_number, listed_line, read_tic, rewrite_tic};
 use tic_text::{TicFault, TicReading, TicValues};
@@ -96,7 +98,7 @@ fn run_read() -> bool {
 }
 
 // What stands in a part of four bytes.
-#[derive(Drop)]
+#[derive(Clone, Copy)]
 enum Number {
     Is(usize),
     Missing,

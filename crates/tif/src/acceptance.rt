@@ -9,14 +9,14 @@ use crate::received::is_received;
 use lines::{Count, Gross, Lines, footer_of, framed_lines, header_of};
 
 // A file that is to be judged line by line: its lines and the exact sum of their amounts with VAT.
-#[derive(Drop)]
+#[derive(Clone, Copy)]
 pub struct Whole {
     pub lines: usize,
     pub total: Gross,
 }
 
 // What becomes of a file before its lines are judged.
-#[derive(Drop)]
+#[derive(Clone, Copy)]
 pub enum Acceptance {
     Judged(Whole),
     AlreadyReceived,

@@ -9,7 +9,7 @@ use lines::{Digits, Gross, field, read_digits};
 use passage::GROSS_AMOUNT;
 
 // An amount with VAT that a line, a body or a footer states.
-#[derive(Drop)]
+#[derive(Clone, Copy)]
 pub enum Amount {
     States(Gross),
     OutOfForm,

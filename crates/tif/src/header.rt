@@ -12,14 +12,14 @@ use lines::{Class, Count, Digits, all_of, field, is_same, read_digits};
 use moment::is_moment;
 
 // How many records and transactions a header states.
-#[derive(Drop)]
+#[derive(Clone, Copy)]
 pub struct Counts {
     pub records: Count,
     pub transactions: Count,
 }
 
 // What a header is found to be.
-#[derive(Drop)]
+#[derive(Clone, Copy)]
 pub enum Header {
     States(Counts),
     OutOfForm,

@@ -1,4 +1,6 @@
 // The TIF between the received bytes and the first line verdict: its name, header, lines and footer, and its acceptance.
+#![tactic(auto)]
+
 mod acceptance;
 mod body;
 mod columns;

@@ -8,7 +8,7 @@ use crate::columns::TIF;
 use passage::WIDTH;
 
 // A reader keeps the file and its place in it: where a line begins.
-#[derive(Drop)]
+#[derive(Clone, Copy)]
 pub struct Reader<'a> {
     pub file: &'a [u8],
     pub at: usize,

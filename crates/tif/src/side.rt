@@ -5,7 +5,7 @@ use crate::columns::SIDE;
 use lines::{field, is_same};
 
 // Which side of the account a file is for.
-#[derive(Drop)]
+#[derive(Clone, Copy)]
 pub enum Side {
     Credit,
     Debit,

@@ -1,4 +1,6 @@
 // Runs name, received names and acceptance over cases from standard input, and prints one line for each.
+#![tactic(auto)]
+
 use frames::{Kind, print_bytes, print_line_feed, print_number, read_kind, read_part};
 use tif::{Acceptance, Side, Whole, acceptance_of, is_name, names_whole, side_of};
 

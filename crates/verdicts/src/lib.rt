@@ -1,4 +1,6 @@
 // The verdict on a line of a TIF: what it says, its number and its word, the record of a line, and the tests that a line passes or fails by itself (L1 to L5, and L9 where it is told whether the station is known).
+#![tactic(auto)]
+
 mod line_tests;
 mod record;
 mod tables;

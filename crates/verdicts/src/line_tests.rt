@@ -18,7 +18,7 @@ use plate::plate_on_line;
 use tif::Side;
 
 // What the tests of a line by itself find: the first that it fails, or none.
-#[derive(Drop)]
+#[derive(Clone, Copy)]
 pub enum LineTest {
     Fails(Verdict),
     Passes,

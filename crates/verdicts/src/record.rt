@@ -7,7 +7,7 @@ use lines::{Gross, Net, field, value_of};
 use passage::{GROSS_AMOUNT, NET_FEE};
 
 // What is kept of a line: its number counted from 1, its amount with VAT, its verdict, and its fee without VAT.
-#[derive(Drop)]
+#[derive(Clone, Copy)]
 pub struct Record {
     pub number: usize,
     pub gross: Gross,
