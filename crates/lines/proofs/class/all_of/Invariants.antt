@@ -1,0 +1,17 @@
+use native.Mathlib.Omega.{arith}
+use Prim.Native.Nat.{◌-◌, ◌≤◌}
+use mathlib.Core.Path.{◌≡◌, sym, ◌∙◌}
+use mathlib.Core.Bool.{true}
+use lib.ListN.{length}
+use borrow.Author.Rules.{rules}
+use Rattle.lines.specs.Below.{all_below}
+use Rattle.lines.specs.BelowLaws.{all_zero, all_more, all_fails}
+use Rattle.lines.specs.Class.{is_of, byte_is, all_bytes, all_of}
+use borrow.Author.Tests.{not-true, not-false}
+use Rattle.lines.proofs.class.all_of.Given as goal
+
+abbrev pub invariant-loop-i : goal.invariant-loop-i
+invariant-loop-i l = (all_below l.i (byte_is (is_of l.class) l.s) ≡ true) × (l.i ≤ length l.s)
+
+abbrev pub decreases-loop-i : goal.decreases-loop-i
+decreases-loop-i l = length l.s - l.i

@@ -1,0 +1,7 @@
+use mathlib.Core.Path.{◌∙◌}
+use borrow.Author.Rules.{rules}
+use Rattle.lines.specs.NumberLaws.{value_digits}
+use Rattle.lines.proofs.number.number_of.Goals as goal
+
+pub returns : goal.returns
+returns c = c.value_of.ensures ∙ value_digits _ c.requires.1
