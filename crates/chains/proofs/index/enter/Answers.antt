@@ -1,0 +1,36 @@
+use native.Mathlib.Omega.{arith}
+use Prim.Native.Nat.{ℕ, ◌+◌}
+use mathlib.Core.Path.{◌≡◌, ap, ◌∙◌}
+use lib.ListN.{get_or, set}
+use borrow.Author.Rules.{rules}
+use Rattle.chains.specs.Hash.{hash_of}
+use Rattle.chains.specs.Index.{hash_at}
+use Rattle.chains.specs.IndexLaws.{line_there, line_spanned}
+use Rattle.chains.proofs.index.enter.Goals as goal
+use Rattle.chains.proofs.index.enter.Goals.{After-hash_line-h}
+
+pub line_of-requires : goal.line_of-requires
+line_of-requires c =
+    let s = c in
+    line_there _ _ _ (s.args.k + 1) s.args.k s.requires.0 (omega arith)
+
+pub hash_line-h-requires : goal.hash_line-h-requires
+hash_line-h-requires c =
+    let s = c in
+    rw c.line_of.ensures (line_spanned _ _ _ (s.args.k + 1) s.args.k s.requires.0 (omega arith))
+
+-- the hash is that of line k
+hashed : (c : After-hash_line-h) →
+    let a = c.args in
+    c.hash_line-h.result ≡ hash_at a.layout a.file.now a.spans.now a.k
+unfolding hash_at
+hashed c = c.hash_line-h.ensures.value ∙ ap (hash_of _) c.line_of.ensures
+
+pub returns : goal.returns
+returns c =
+    let a = c.args in
+    let e = hashed (goal.at.returns c).After-hash_line-h in
+    record {
+      link = ap (λ (h : ℕ). set a.prev.now a.k (get_or a.heads.now h 0)) e;
+      head = ap (λ (h : ℕ). set a.heads.now h (a.k + 1)) e;
+    }

@@ -1,0 +1,8 @@
+use mathlib.Core.Path.{ap, ◌∙◌}
+use borrow.Author.Rules.{rules}
+use Rattle.moment.specs.Moment.{is_date, is_real}
+use Rattle.moment.proofs.is_date.Goals as goal
+
+pub returns : goal.returns
+unfolding is_date
+returns c = c.is_real.ensures ∙ ap is_real c.check_date.ensures
