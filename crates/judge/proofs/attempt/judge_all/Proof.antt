@@ -1,11 +1,11 @@
-use Rattle.core.specs.Prelude.{◌≡◌, ℕ, List, length, take}
+use Rattle.std.specs.Prelude.{◌≡◌, ℕ, List, length, take}
 use mathlib.Core.Path.{refl, sym, ap, ◌∙◌, subst}
 use borrow.Author.Rules.{rules}
 use lib.Seq.{take_at}
 use Rattle.lines.specs.SpliceLaws.{splice_zero}
 use Rattle.judge.specs.Core.{Filled, LinesReady}
-use Rattle.judge.proofs.core.judge_all.Statement.{statement}
-use Rattle.judge.proofs.core.judge_all.Tie as tie
+use Rattle.judge.proofs.attempt.judge_all.Statement.{statement}
+use Rattle.judge.proofs.attempt.judge_all.Tie as tie
 
 put_bytes_requires : tie.Need-put-bytes-requires
 put_bytes_requires c κs = search rules

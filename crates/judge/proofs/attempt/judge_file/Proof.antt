@@ -5,8 +5,8 @@ use Rattle.judge.specs.Call.{Call, call_of}
 use Rattle.judge.specs.SoundLaws.{lines_ready}
 use Rattle.judge.specs.FileLaws.{sound, tried, words_long, sums, marks_front, told, known, committable, written}
 use Rattle.judge.specs.AnswerLaws.{no_room, answered}
-use Rattle.judge.proofs.core.judge_file.Statement.{statement}
-use Rattle.judge.proofs.core.judge_file.Tie as tie
+use Rattle.judge.proofs.attempt.judge_file.Statement.{statement}
+use Rattle.judge.proofs.attempt.judge_file.Tie as tie
 
 -- the call at the function's entry
 abbrev call : tie.Start → Call

@@ -1,4 +1,4 @@
-use Rattle.core.specs.Prelude.{◌≡◌, [], ◌∷◌}
+use Rattle.std.specs.Prelude.{◌≡◌, [], ◌∷◌}
 use mathlib.Core.Path.{refl, sym, ◌∙◌}
 use types.Run.{OneOf, miss}
 use denote.Enum.Declared.{tag_of}
@@ -9,8 +9,8 @@ use Rattle.answers.specs.Told.{total_told, file_answer}
 use Rattle.answers.specs.declared.answer.FileAnswer.{FileAnswer}
 use Rattle.judge.specs.Call.{Call, call_of, file_of, lines_to_judge}
 use Rattle.judge.specs.WholeLaws.{NoLines, file_refused, no_lines, widths}
-use Rattle.judge.proofs.core.judge_sound.Statement.{statement}
-use Rattle.judge.proofs.core.judge_sound.Tie as tie
+use Rattle.judge.proofs.attempt.judge_sound.Statement.{statement}
+use Rattle.judge.proofs.attempt.judge_sound.Tie as tie
 
 -- the call at the function's entry
 abbrev call : tie.Start → Call

@@ -1,8 +1,8 @@
 use mathlib.Core.Path.{sym, ◌∙◌}
 use borrow.Author.Rules.{rules}
 use Rattle.judge.specs.WholeLaws.{file_small, file_room, file_written}
-use Rattle.judge.proofs.core.refuse_file.Statement.{statement}
-use Rattle.judge.proofs.core.refuse_file.Tie as tie
+use Rattle.judge.proofs.attempt.refuse_file.Statement.{statement}
+use Rattle.judge.proofs.attempt.refuse_file.Tie as tie
 
 summarize_refused_requires : tie.Need-summarize-refused-requires
 summarize_refused_requires c κs = search rules

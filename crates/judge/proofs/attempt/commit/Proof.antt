@@ -1,4 +1,4 @@
-use Rattle.core.specs.Prelude.{ℕ, List}
+use Rattle.std.specs.Prelude.{ℕ, List}
 use mathlib.Core.Path.{ap₂, ◌∙◌}
 use borrow.Author.Rules.{rules}
 use Rattle.lines.specs.SpliceLaws.{splice_whole}
@@ -7,8 +7,8 @@ use Rattle.lines.specs.Splice.{splice}
 use Rattle.tic_text.specs.Text.{tic_text}
 use Rattle.tic_text.specs.declared.values.TicHead.{TicHead}
 use Rattle.tic_text.specs.declared.values.TicSums.{TicSums}
-use Rattle.judge.proofs.core.commit.Statement.{statement}
-use Rattle.judge.proofs.core.commit.Tie as tie
+use Rattle.judge.proofs.attempt.commit.Statement.{statement}
+use Rattle.judge.proofs.attempt.commit.Tie as tie
 
 put_bytes_requires : tie.Need-put-bytes-requires
 put_bytes_requires c κs = search rules

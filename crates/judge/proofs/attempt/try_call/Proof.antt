@@ -1,10 +1,10 @@
-use Rattle.core.specs.Prelude.{◌≡◌}
+use Rattle.std.specs.Prelude.{◌≡◌}
 use borrow.Author.Rules.{rules}
 use Rattle.judge.specs.AnswerLaws.{refused_call}
 use Rattle.judge.specs.Call.{Call, call_of, check_of}
 use Rattle.answers.specs.declared.answer.CallCheck.{CallCheck}
-use Rattle.judge.proofs.core.try_call.Statement.{statement}
-use Rattle.judge.proofs.core.try_call.Tie as tie
+use Rattle.judge.proofs.attempt.try_call.Statement.{statement}
+use Rattle.judge.proofs.attempt.try_call.Tie as tie
 
 -- the call at the function's entry
 abbrev call : tie.Start → Call

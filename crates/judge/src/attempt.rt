@@ -1,4 +1,4 @@
-ghost use Rattle.core.specs.Prelude.{◌≡◌, ◌≤◌, length, take};
+ghost use Rattle.std.specs.Prelude.{◌≡◌, ◌≤◌, length, take};
 ghost use Rattle.answers.specs.Told.{refused_file};
 ghost use Rattle.judge.specs.Call.{call_of, lines_to_record};
 ghost use Rattle.judge.specs.Core.{LinesReady, Filled, Committable, Committed, SoundReady, FileReady, Widths, FileRefused, CallTried};
