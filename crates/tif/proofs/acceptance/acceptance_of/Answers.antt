@@ -2,12 +2,10 @@ use native.Mathlib.Omega.{arith}
 use Prim.Native.Nat.{ℕ}
 use mathlib.Core.Path.{◌≡◌, sym, ap, ◌∙◌}
 use mathlib.Core.Bool.{true}
-use mathlib.Core.List.{List}
 use lib.ListN.{length, drop}
-use borrow.Author.Rules.{rules}
 use mathlib.Core.Bool.{not}
 use lib.Dec.{eqb}
-use Rattle.lines.specs.FirstOf.{Row, Picks, picked, here, past, none}
+use Rattle.lines.specs.FirstOf.{Picks, picked, here, past, none}
 use Rattle.lines.specs.Rows.{framed_lines}
 use Rattle.lines.specs.RowsLaws.{Framed, framed_is, header_length, footer_length}
 use Rattle.lines.specs.declared.kinds.Gross.{Gross}

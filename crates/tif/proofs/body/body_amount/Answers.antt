@@ -1,10 +1,8 @@
 use native.Mathlib.Omega.{arith}
-use Prim.Native.Nat.{ℕ, ◌-◌, ◌≤◌}
+use Prim.Native.Nat.{ℕ}
 use mathlib.Core.Path.{◌≡◌, sym, ap, ◌∙◌}
 use mathlib.Core.Bool.{true}
 use lib.ListN.{length}
-use borrow.Author.Rules.{rules}
-use Rattle.lines.specs.Below.{all_below, sum_below}
 use Rattle.lines.specs.BelowLaws.{all_zero, all_more, all_fails, sum_zero, sum_suc}
 use Rattle.lines.specs.RowsLaws.{line_ends, line_length}
 use Rattle.tif.specs.Body.{gross_of, line_at, line_sound_at, line_amount, amount_at, body_sound, body_total, body_amount}

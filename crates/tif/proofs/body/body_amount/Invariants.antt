@@ -1,17 +1,8 @@
-use native.Mathlib.Omega.{arith}
-use Prim.Native.Nat.{ℕ, ◌-◌, ◌≤◌}
-use mathlib.Core.Path.{◌≡◌, sym, ap, ◌∙◌}
+use Prim.Native.Nat.{◌-◌, ◌≤◌}
+use mathlib.Core.Path.{◌≡◌}
 use mathlib.Core.Bool.{true}
-use lib.ListN.{length}
-use borrow.Author.Rules.{rules}
 use Rattle.lines.specs.Below.{all_below, sum_below}
-use Rattle.lines.specs.BelowLaws.{all_zero, all_more, all_fails, sum_zero, sum_suc}
-use Rattle.lines.specs.RowsLaws.{line_ends, line_length}
-use Rattle.tif.specs.Body.{gross_of, line_at, line_sound_at, line_amount, amount_at, body_sound, body_total, body_amount}
-use Rattle.tif.specs.BodyLaws.{amount_bad, amount_good, amount_is, amount_small, sum_small, line_not}
-use Rattle.lines.specs.declared.kinds.Gross.{Gross}
-use Rattle.tif.specs.Columns.{tif_layout}
-use Rattle.tif.specs.declared.body.Amount.{Amount}
+use Rattle.tif.specs.Body.{line_sound_at, amount_at}
 use Rattle.tif.proofs.body.body_amount.Given as goal
 
 abbrev pub invariant-loop-k : goal.invariant-loop-k

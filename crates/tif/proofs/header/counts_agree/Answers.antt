@@ -1,6 +1,5 @@
 use mathlib.Core.Bool.{true}
 use mathlib.Core.Path.{◌≡◌, sym, ◌∙◌}
-use borrow.Author.Rules.{rules}
 use lib.Dec.{eqb}
 use Rattle.tif.specs.HeaderLaws.{counts_records, counts_none, counts_rest}
 use borrow.Author.Tests.{not-true, not-false}

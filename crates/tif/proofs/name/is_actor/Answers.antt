@@ -1,4 +1,3 @@
-use borrow.Author.Rules.{rules}
 use borrow.Author.Tests.{eq-eqb, ne_eqb}
 use Rattle.tif.specs.Name.{is_actor}
 use Rattle.tif.proofs.name.is_actor.Goals as goal

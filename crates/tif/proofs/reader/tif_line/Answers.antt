@@ -1,4 +1,3 @@
-use borrow.Author.Rules.{rules}
 use Rattle.lines.specs.Rows.{line_of}
 use Rattle.tif.proofs.reader.tif_line.Goals as goal
 

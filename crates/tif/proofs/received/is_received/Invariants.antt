@@ -1,14 +1,9 @@
-use native.Mathlib.Omega.{arith}
-use Prim.Native.Nat.{◌-◌, ◌*◌, ◌/◌, ◌≤◌}
-use mathlib.Core.Path.{◌≡◌, sym, ◌∙◌}
+use Prim.Native.Nat.{◌-◌, ◌*◌, ◌≤◌}
+use mathlib.Core.Path.{◌≡◌}
 use mathlib.Core.Bool.{false}
 use lib.ListN.{length}
-use borrow.Author.Rules.{rules}
-use native.Mathlib.Nat.{div-mul-le_self}
 use Rattle.lines.specs.Below.{some_below}
-use Rattle.lines.specs.BelowLaws.{some_zero, some_more, some_hit}
-use Rattle.lines.specs.RowsLaws.{line_ends}
-use Rattle.tif.specs.Received.{names_layout, holds_name, is_received}
+use Rattle.tif.specs.Received.{holds_name}
 use Rattle.tif.proofs.received.is_received.Given as goal
 
 abbrev pub invariant-loop-k : goal.invariant-loop-k
