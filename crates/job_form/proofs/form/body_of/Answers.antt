@@ -1,7 +1,6 @@
 use native.Mathlib.Omega.{arith}
 use Prim.Native.Nat.{◌+◌, ◌-◌}
 use mathlib.Core.Path.{◌≡◌}
-use borrow.Author.Rules.{rules}
 use Rattle.job_form.specs.Form.{body_of}
 use Rattle.job_form.specs.FormLaws.{not_long, not_short, body_within}
 use Rattle.job_form.proofs.form.body_of.Goals as goal
@@ -27,5 +26,5 @@ unfolding body_of
 returns c =
     let p = c.body_place-at in
     let n = c.length_at in
-    let e : p.result-1 + n.result-1 - p.result-1 ≡ n.result-1 = omega arith in
+    let e : p.result + n.result - p.result ≡ n.result = omega arith in
     rw (e, p.ensures, n.ensures.value)

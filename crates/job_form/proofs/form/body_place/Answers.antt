@@ -1,8 +1,6 @@
 use native.Mathlib.Omega.{arith}
-use Prim.Native.Nat.{◌+◌, ◌-◌, ◌*◌, ◌≤◌}
 use mathlib.Core.Path.{◌≡◌, sym}
 use borrow.Author.Rules.{rules}
-use Rattle.job_form.specs.Form.{body_place}
 use Rattle.job_form.specs.FormLaws.{place_zero, place_suc}
 use Rattle.job_form.proofs.form.body_place.Goals as goal
 
