@@ -6,7 +6,7 @@
 --     twice            what a `&[u8]` owns can be had twice
 --     left-of          what a callee leaves of a `&mut [T]` that it was passed: the last list, which is as long as the list passed
 -- `twice` takes `Logic`. The rest assumes nothing.
-use Rattle.core.specs.Prelude.{ℕ, ◌^◌, ◌<◌, List, [], ◌∷◌, length}
+use Rattle.std.specs.Prelude.{ℕ, ◌^◌, ◌<◌, List, [], ◌∷◌, length}
 use seplogic.Ra.Ura.{Ura}
 use mir.Syntax.{Ty, named, erased, imm, mut, w8, ty_int, ty_ref}
 use mir.Val.{Val, WT}

@@ -1,5 +1,5 @@
 -- What the walk of `judge` reads off its MIR and its contract: the types of its locals, the array of words as it is made, the contracts that it cites, and what is had of its parameters at exit. Assumes nothing.
-use Rattle.core.specs.Prelude.{◌≡◌, ℕ, List, [], ◌∷◌, length, replicate}
+use Rattle.std.specs.Prelude.{◌≡◌, ℕ, List, [], ◌∷◌, length, replicate}
 use mathlib.Core.Path.{sym, ◌∙◌, ap, subst}
 use lib.Dec.{lit<}
 use lib.ListN.{length-replicate}
@@ -23,8 +23,8 @@ use Rattle.verdicts.specs.contracts.record.Record as T
 use Rattle.answers.proofs.answer.Answer.TheLaws as TA'
 use Rattle.judge.proofs.ByteSlices.{shared, lent, byte_ref, byte_slice}
 use Rattle.judge.proofs.Parts.{TupleOn}
-use Rattle.judge.specs.contracts.core.try_call as core
-use Rattle.judge.specs.contracts.core.lines_to_record as lines
+use Rattle.judge.specs.contracts.attempt.try_call as core
+use Rattle.judge.specs.contracts.attempt.lines_to_record as lines
 use Rattle.judge.specs.contracts.records.fill as fill
 use Rattle.judge.specs.contracts.call.judge as judge
 

@@ -4,7 +4,7 @@
 --     free_all         from such a context they are freed
 --     arg              the next operand of a call is a local, at a position of the context.        while-test       the test of a `while`
 -- `arg` and `while_test` take `Logic`. The rest assumes nothing.
-use Rattle.core.specs.Prelude.{◌≡◌, ℕ, zero, suc, Bool, not, T, List, [], ◌∷◌, ◌++◌}
+use Rattle.std.specs.Prelude.{◌≡◌, ℕ, zero, suc, Bool, not, T, List, [], ◌∷◌, ◌++◌}
 use mathlib.Core.Path.{sym, subst}
 use seplogic.Ra.Ura.{Ura}
 use mir.Syntax.{Ty, Local, local, Opd as Operand, copy, Body, seq, cond, skip, exit}

@@ -8,7 +8,7 @@
 --     asks_nothing     a goal P ∗ emp
 --     swap⊢, under⊢, weaker      two stretches change places; the context is changed behind a stretch; a context for another that it entails
 -- Assumes nothing.
-use Rattle.core.specs.Prelude.{◌≡◌, ℕ, zero, suc, List, [], ◌∷◌, ◌++◌, map}
+use Rattle.std.specs.Prelude.{◌≡◌, ℕ, zero, suc, List, [], ◌∷◌, ◌++◌, map}
 use seplogic.Ra.Ura.{Ura}
 use base.Logic.{SProp, ent, sep, emp, id⊢, via, comm∗, assoc∗, assoc', mono∗, mono_l, mono_r, emp∗, fst∗}
 use base.Fml.{Fml, ftrue, feq, fsep}

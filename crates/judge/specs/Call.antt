@@ -1,5 +1,5 @@
 -- The call as a whole: what is lent, the answer, and what is lent afterwards. Assumes nothing.
-use Rattle.core.specs.Prelude.{◌≡◌, ℕ, ◌+◌, ◌<◌, Bool, true, false, cond, List, [], ◌++◌, length, drop}
+use Rattle.std.specs.Prelude.{◌≡◌, ℕ, ◌+◌, ◌<◌, Bool, true, false, cond, List, [], ◌++◌, length, drop}
 use Rattle.lines.specs.Splice.{splice}
 use Rattle.tif.specs.Acceptance.{acceptance_of}
 use Rattle.tif.specs.Name.{name_sender}

@@ -1,5 +1,5 @@
 -- What each step of the call rests on, and what it gives. Assumes nothing.
-use Rattle.core.specs.Prelude.{◌≡◌, ℕ, ◌<◌, ◌≤◌, true, cond, List, [], length, take}
+use Rattle.std.specs.Prelude.{◌≡◌, ℕ, ◌<◌, ◌≤◌, true, cond, List, [], length, take}
 use Rattle.lines.specs.Rows.{most_lines}
 use Rattle.lines.specs.Splice.{splice}
 use Rattle.tif.specs.Name.{name_sender}

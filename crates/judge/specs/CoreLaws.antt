@@ -1,5 +1,5 @@
 -- What the steps of the call give, from what they rest on. Assumes nothing.
-use Rattle.core.specs.Prelude.{◌≡◌, ℕ, ◌-◌, ◌≤◌, List, ◌++◌, length, take, drop}
+use Rattle.std.specs.Prelude.{◌≡◌, ℕ, ◌-◌, ◌≤◌, List, ◌++◌, length, take, drop}
 use Rattle.std.proofs.Common.{sym, ap, ◌∙◌, subst, arith, length-append, take_at, length-take-le}
 use Rattle.std.proofs.Math.Nat.{sub-zero}
 use Rattle.lines.specs.BelowLaws.{table_length}

@@ -1,5 +1,5 @@
 -- The records of the lines, by their words. Assumes nothing.
-use Rattle.core.specs.Prelude.{ℕ, zero, suc, ◌+◌, ◌<◌, ◌≤◌, List, [], ◌∷◌, ◌++◌, length, slice_index}
+use Rattle.std.specs.Prelude.{ℕ, zero, suc, ◌+◌, ◌<◌, ◌≤◌, List, [], ◌∷◌, ◌++◌, length, slice_index}
 use Rattle.lines.specs.Rows.{line_place}
 use Rattle.passage.specs.Passage.{line_width}
 use Rattle.tif.specs.Body.{line_at}

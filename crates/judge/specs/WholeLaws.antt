@@ -1,5 +1,5 @@
 -- A file refused as a whole: its TIC has no line, and its counts and sums are zero. Assumes nothing.
-use Rattle.core.specs.Prelude.{◌≡◌, ℕ, ◌≤◌, Bool, true, false, List, [], length, nat_lt}
+use Rattle.std.specs.Prelude.{◌≡◌, ℕ, ◌≤◌, Bool, true, false, List, [], length, nat_lt}
 use Rattle.std.specs.Prelude.{refl}
 use Rattle.std.proofs.Common.{sym, ◌∙◌, arith}
 use Rattle.std.proofs.Math.Path.{ap}

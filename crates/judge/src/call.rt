@@ -1,7 +1,7 @@
-ghost use Rattle.core.specs.Prelude.{length};
+ghost use Rattle.std.specs.Prelude.{length};
 ghost use Rattle.judge.specs.Call.{call_of, Judged};
 
-use crate::core::{lines_to_record, try_call};
+use crate::attempt::{lines_to_record, try_call};
 use crate::records::fill;
 use answers::Answer;
 use verdicts::Record;

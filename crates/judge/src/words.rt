@@ -1,8 +1,8 @@
-ghost use Rattle.core.specs.Prelude.{◌≡◌, ◌≤◌, length};
+ghost use Rattle.std.specs.Prelude.{◌≡◌, ◌≤◌, length};
 ghost use Rattle.lines.specs.Splice.{splice};
 ghost use Rattle.judge.specs.Call.{call_of, WordsJudged};
 
-use crate::core::{lines_to_record, try_call};
+use crate::attempt::{lines_to_record, try_call};
 use answers::Answer;
 
 // Writes the words that are to be kept in front of those lent.

@@ -1,6 +1,6 @@
 -- `judge` meets its contract: a walk of its MIR, by hand. A local array of words is lent to the covered core as a `&mut [u64]` for a lifetime that the walk makes, comes back, and is lent to `fill` as a `&[u64]`.
 -- `marks` and `out` go to the core, and `records` to `fill`, for good. Assumes nothing.
-use Rattle.core.specs.Prelude.{◌≡◌, ℕ, suc, ◌^◌, ◌<◌, ◌≤◌, T as Holds, List, [], ◌∷◌, ◌++◌, map, length, drop as drop_n}
+use Rattle.std.specs.Prelude.{◌≡◌, ℕ, suc, ◌^◌, ◌<◌, ◌≤◌, T as Holds, List, [], ◌∷◌, ◌++◌, map, length, drop as drop_n}
 use mathlib.Core.Path.{refl, sym, ◌∙◌, ap, subst}
 use lib.Dec.{lit<}
 use seplogic.Ra.Ura.{Ura}
@@ -52,12 +52,12 @@ use Rattle.judge.proofs.JudgeShape.{local_types, zeros, zero_vals, room_of, zero
 use Rattle.judge.proofs.LocalArray.{Lies, laid, cleared, hidden, lends, back, shows, shown}
 use Rattle.judge.proofs.Locals.{place, deaths, alloc_all, free_all, arg}
 use Rattle.judge.proofs.Parts.{span, at, Tuple, tuple, tuple_on, of_tuple, each_of, bundled, bundle, apart, copies, with_eq, asks_nothing}
-use Rattle.judge.proofs.core.try_call.Symbol as core_def
-use Rattle.judge.proofs.core.try_call.Symbol.{name as #core}
-use Rattle.judge.proofs.core.try_call.Met as core_thm
-use Rattle.judge.proofs.core.lines_to_record.Symbol as lines_def
-use Rattle.judge.proofs.core.lines_to_record.Symbol.{name as #lines}
-use Rattle.judge.proofs.core.lines_to_record.Met as lines_thm
+use Rattle.judge.proofs.attempt.try_call.Symbol as core_def
+use Rattle.judge.proofs.attempt.try_call.Symbol.{name as #core}
+use Rattle.judge.proofs.attempt.try_call.Met as core_thm
+use Rattle.judge.proofs.attempt.lines_to_record.Symbol as lines_def
+use Rattle.judge.proofs.attempt.lines_to_record.Symbol.{name as #lines}
+use Rattle.judge.proofs.attempt.lines_to_record.Met as lines_thm
 use Rattle.judge.proofs.records.fill.Symbol as fill_def
 use Rattle.judge.proofs.records.fill.Symbol.{name as #fill}
 use Rattle.judge.proofs.records.fill.Met as fill_thm
@@ -289,6 +289,6 @@ judge_spec 𝓤 𝓛 𝓜 𝓡 =
     entered 𝓤 𝓛.H (triple_of 𝓛 judge.signature (judge.spec 𝓛 𝓜.mem 𝓡.run))
     (tables 𝓤 𝓛.H 𝓜 𝓡 code.env).C (tables 𝓤 𝓛.H 𝓜 𝓡 code.env).Λ #judge code.function (code.unfolded 𝓤 𝓛.H 𝓜 𝓡)
     (judge_meets 𝓛 𝓜.mem 𝓡.run (tables_of 𝓤 𝓛.H 𝓜 (tables 𝓤 𝓛.H 𝓜 𝓡 code.env))
-    (cited 𝓤 𝓛.H (Core 𝓛 𝓜.mem 𝓡.run) 𝓜 𝓡 code.env #core core_def.routine code.calls_judge::core::try_call (core_thm.met 𝓤 𝓛 𝓜 𝓡))
-    (cited 𝓤 𝓛.H (Lines 𝓛 𝓜.mem 𝓡.run) 𝓜 𝓡 code.env #lines lines_def.routine code.calls_judge::core::lines_to_record (lines_thm.met 𝓤 𝓛 𝓜 𝓡))
+    (cited 𝓤 𝓛.H (Core 𝓛 𝓜.mem 𝓡.run) 𝓜 𝓡 code.env #core core_def.routine code.calls_judge::attempt::try_call (core_thm.met 𝓤 𝓛 𝓜 𝓡))
+    (cited 𝓤 𝓛.H (Lines 𝓛 𝓜.mem 𝓡.run) 𝓜 𝓡 code.env #lines lines_def.routine code.calls_judge::attempt::lines_to_record (lines_thm.met 𝓤 𝓛 𝓜 𝓡))
     (cited 𝓤 𝓛.H (Fill 𝓛 𝓜.mem 𝓡.run) 𝓜 𝓡 code.env #fill fill_def.routine code.calls_judge::records::fill (fill_thm.met 𝓤 𝓛 𝓜 𝓡)))

@@ -1,6 +1,6 @@
 -- `fill` meets its contract: a walk of its MIR, by hand. The borrow is opened once, before the loop, and closed once, after it. A turn calls `record_at`, of which the proof knows only that it meets its contract, takes one record out of the row and stores to it.
 -- Assumes nothing.
-use Rattle.core.specs.Prelude.{◌≡◌, ℕ, suc, ◌+◌, ◌-◌, ◌*◌, ◌^◌, ◌<◌, ◌≤◌, T as Holds, ltb, List, [], ◌∷◌, ◌++◌, map, length, set}
+use Rattle.std.specs.Prelude.{◌≡◌, ℕ, suc, ◌+◌, ◌-◌, ◌*◌, ◌^◌, ◌<◌, ◌≤◌, T as Holds, ltb, List, [], ◌∷◌, ◌++◌, map, length, set}
 use mathlib.Core.Path.{refl, sym, ◌∙◌, ap, subst}
 use Prim.Native.Nat.{zero-le}
 use native.Mathlib.Nat.{le_antisymm}

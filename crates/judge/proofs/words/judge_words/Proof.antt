@@ -1,5 +1,5 @@
 use native.Mathlib.Omega.{arith}
-use Rattle.core.specs.Prelude.{◌-◌, ◌≤◌, length}
+use Rattle.std.specs.Prelude.{◌-◌, ◌≤◌, length}
 use lib.ListN.{length-take}
 use borrow.Author.Rules.{rules}
 use Rattle.judge.specs.Call.{Call, call_of}
