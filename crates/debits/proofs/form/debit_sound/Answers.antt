@@ -1,7 +1,6 @@
 use native.Mathlib.Omega.{arith}
 use mathlib.Core.Path.{◌≡◌, sym, ◌∙◌}
 use lib.ListN.{drop, length-drop}
-use borrow.Author.Rules.{rules}
 use borrow.Author.Tests.{eq-eqb, ne_eqb, not-true, not-false}
 use Rattle.lines.specs.Number.{read_digits}
 use Rattle.lines.specs.NumberLaws.{read_good, read_bad}
@@ -22,8 +21,7 @@ returns-then-line-ne10 c = rw (eq-eqb _ _ c.if-line-ne49.false, ne_eqb _ _ c.if-
 pub returns-then-not-is_debit_type : goal.returns-then-not-is_debit_type
 unfolding debit_sound
 returns-then-not-is_debit_type c =
-    let w = c in
-    rw (eq-eqb _ _ w.if-line-ne49.false, eq-eqb _ _ w.if-line-ne10.false, sym c.is_debit_type.ensures ∙ not-true _ c.if-not-is_debit_type.true-raw)
+    rw (eq-eqb _ _ c.if-line-ne49.false, eq-eqb _ _ c.if-line-ne10.false, sym c.is_debit_type.ensures ∙ not-true _ c.if-not-is_debit_type.true-raw)
 
 pub read_digits-requires : goal.read_digits-requires
 read_digits-requires c =
@@ -33,15 +31,11 @@ read_digits-requires c =
 pub returns-in_default : goal.returns-in_default
 unfolding debit_sound
 returns-in_default c =
-    let t = c in
-    let w = t in
-    let e : read_digits (gross_amount w.args.line.now) ≡ Digits.NotDigits = cc in
-    rw (eq-eqb _ _ w.if-line-ne49.false, eq-eqb _ _ w.if-line-ne10.false, sym t.is_debit_type.ensures ∙ not-false _ t.if-not-is_debit_type.false-raw) (sym (read_bad _ e))
+    let e : read_digits (gross_amount c.args.line.now) ≡ Digits.NotDigits = cc in
+    rw (eq-eqb _ _ c.if-line-ne49.false, eq-eqb _ _ c.if-line-ne10.false, sym c.is_debit_type.ensures ∙ not-false _ c.if-not-is_debit_type.false-raw) (sym (read_bad _ e))
 
 pub returns : goal.returns
 unfolding debit_sound
 returns c =
-    let t = c in
-    let w = t in
-    let amount = gross_amount w.args.line.now in
-    rw (eq-eqb _ _ w.if-line-ne49.false, eq-eqb _ _ w.if-line-ne10.false, sym t.is_debit_type.ensures ∙ not-false _ t.if-not-is_debit_type.false-raw) (sym (read_good amount c.in-Value.field-0 (cc)).0)
+    let amount = gross_amount c.args.line.now in
+    rw (eq-eqb _ _ c.if-line-ne49.false, eq-eqb _ _ c.if-line-ne10.false, sym c.is_debit_type.ensures ∙ not-false _ c.if-not-is_debit_type.false-raw) (sym (read_good amount c.in-Value.field-0 (cc)).0)

@@ -1,7 +1,6 @@
 use native.Mathlib.Omega.{arith}
 use mathlib.Core.Path.{◌≡◌, sym, ap, ◌∙◌}
 use lib.ListN.{length}
-use borrow.Author.Rules.{rules}
 use borrow.Author.Tests.{eq-eqb, ne_eqb, not-true, not-false}
 use Rattle.lines.specs.Rows.{line_count}
 use Rattle.lines.specs.RowsLaws.{count_is, count_not}
@@ -29,20 +28,17 @@ lines_sound-requires c = omega (arith, (count_is _ _ _ (counted (goal.at.lines_s
 pub returns-then-not-lines_sound : goal.returns-then-not-lines_sound
 unfolding debits_sound
 returns-then-not-lines_sound c =
-    let k = c in
     let is = count_is _ _ _ (counted (goal.at.returns-then-not-lines_sound c).In-Of) in
     rw (is.0, ap (lines_sound _) (sym is.1) ∙ sym c.lines_sound.ensures ∙ not-true _ c.if-not-lines_sound.true-raw)
 
 pub returns-then-n-marks : goal.returns-then-n-marks
 unfolding debits_sound
 returns-then-n-marks c =
-    let t = c in
     let is = count_is _ _ _ (counted (goal.at.returns-then-n-marks c).In-Of) in
-    rw (is.0, ap (lines_sound _) (sym is.1) ∙ sym t.lines_sound.ensures ∙ not-false _ t.if-not-lines_sound.false-raw, ← is.1, ne_eqb _ _ c.if-n-marks.true)
+    rw (is.0, ap (lines_sound _) (sym is.1) ∙ sym c.lines_sound.ensures ∙ not-false _ c.if-not-lines_sound.false-raw, ← is.1, ne_eqb _ _ c.if-n-marks.true)
 
 pub returns : goal.returns
 unfolding debits_sound
 returns c =
-    let t = c in
     let is = count_is _ _ _ (counted (goal.at.returns c).In-Of) in
-    rw (is.0, ap (lines_sound _) (sym is.1) ∙ sym t.lines_sound.ensures ∙ not-false _ t.if-not-lines_sound.false-raw, ← is.1, eq-eqb _ _ c.if-n-marks.false) c.marks_sound.ensures
+    rw (is.0, ap (lines_sound _) (sym is.1) ∙ sym c.lines_sound.ensures ∙ not-false _ c.if-not-lines_sound.false-raw, ← is.1, eq-eqb _ _ c.if-n-marks.false) c.marks_sound.ensures

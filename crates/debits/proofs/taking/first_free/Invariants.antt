@@ -1,12 +1,9 @@
-use native.Mathlib.Omega.{arith}
 use Prim.Native.Nat.{◌-◌, ◌≤◌}
-use mathlib.Core.Path.{◌≡◌, sym, ◌∙◌}
+use mathlib.Core.Path.{◌≡◌}
 use mathlib.Core.Bool.{false}
 use lib.ListN.{length}
-use borrow.Author.Rules.{rules}
 use Rattle.lines.specs.Below.{some_below}
-use Rattle.lines.specs.BelowLaws.{some_zero, some_more, first_hit, first_none}
-use Rattle.debits.specs.Taking.{free_for, place_taken}
+use Rattle.debits.specs.Taking.{free_for}
 use Rattle.debits.proofs.taking.first_free.Given as goal
 
 abbrev pub invariant-loop-j : goal.invariant-loop-j

@@ -3,7 +3,6 @@ use Prim.Native.Nat.{ℕ}
 use mathlib.Core.Path.{◌≡◌, ap, ◌∙◌}
 use mathlib.Core.List.{List}
 use lib.ListN.{length}
-use borrow.Author.Rules.{rules}
 use borrow.Author.Tests.{eq-eqb, ne_eqb}
 use Rattle.lines.specs.Below.{all_below}
 use Rattle.lines.specs.Spans.{spans_in, span_in, agree_on}
@@ -32,6 +31,5 @@ agree_on-requires c =
 pub returns : goal.returns
 unfolding free_for unmarked agrees
 returns c =
-    let i = c in
-    let a = i.args in
-    rw (eq-eqb _ _ i.if-marks-j-ne0.false) (c.agree_on.ensures ∙ ap (λ (l : List ℕ). agree_on credit_spans l a.credit.now) c.line_of.ensures)
+    let a = c.args in
+    rw (eq-eqb _ _ c.if-marks-j-ne0.false) (c.agree_on.ensures ∙ ap (λ (l : List ℕ). agree_on credit_spans l a.credit.now) c.line_of.ensures)

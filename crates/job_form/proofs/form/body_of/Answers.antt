@@ -13,13 +13,10 @@ length_at-requires c = (not_short _ c.requires.0, omega arith)
 
 pub overflow_add-end : goal.overflow_add-end
 overflow_add-end c =
-    let s = c in
-    omega (arith, c.body_place-at.ensures, c.length_at.ensures.value, body_within s.args.job.now s.requires.0 s.args.k s.requires.1, not_long s.args.job.now s.requires.0)
+    omega (arith, c.body_place-at.ensures, c.length_at.ensures.value, body_within c.args.job.now c.requires.0 c.args.k c.requires.1, not_long c.args.job.now c.requires.0)
 
 pub slice_bounds-result-end : goal.slice_bounds-result-end
-slice_bounds-result-end c =
-    let s = c in
-    omega (arith, c.body_place-at.ensures, c.length_at.ensures.value, body_within s.args.job.now s.requires.0 s.args.k s.requires.1)
+slice_bounds-result-end c = omega (arith, c.body_place-at.ensures, c.length_at.ensures.value, body_within c.args.job.now c.requires.0 c.args.k c.requires.1)
 
 pub returns : goal.returns
 unfolding body_of
