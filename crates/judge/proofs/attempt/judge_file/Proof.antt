@@ -32,13 +32,13 @@ part_summarize_end : tie.Need-slice-bounds-summarize-end
 part_summarize_end c =
     let k = c.before.before.before in
     let s = start k in
-    omega (arith, words_long (call s) _ _ s.pre _ _ k.judge_all.ensures)
+    omega (arith, words_long (call s) _ _ s.requires _ _ k.judge_all.ensures)
 
 summarize_requires : tie.Need-summarize-requires
 summarize_requires c κs =
     let k = c.before.before.before.before in
     let s = start k in
-    sums (call s) _ _ s.pre _ _ k.judge_all.ensures
+    sums (call s) _ _ s.requires _ _ k.judge_all.ensures
 
 is_too_small_requires : tie.Need-is-too-small-requires
 is_too_small_requires c κs = search rules
@@ -58,8 +58,8 @@ returns c =
     let t = c.before in
     let k = all_of t in
     let s = start k in
-    no_room (call s) s.pre.ready.sound t.before.summarize.result (told (call s) _ _ s.pre _ _ k.judge_all.ensures _ t.before.summarize.ensures) _ _
-    (tried (call s) _ _ s.pre _ _ k.judge_all.ensures) (sym t.is_too_small.ensures ∙ c.if1.true)
+    no_room (call s) s.requires.ready.sound t.before.summarize.result (told (call s) _ _ s.requires _ _ k.judge_all.ensures _ t.before.summarize.ensures) _ _
+    (tried (call s) _ _ s.requires _ _ k.judge_all.ensures) (sym t.is_too_small.ensures ∙ c.if1.true)
 
 sub_commit : tie.Need-overflow-sub-commit
 sub_commit c = search rules
@@ -71,7 +71,7 @@ part_commit_end : tie.Need-slice-bounds-commit-end
 part_commit_end c =
     let k = c.before.before.before.before.before.before.before.before in
     let s = start k in
-    omega (arith, words_long (call s) _ _ s.pre _ _ k.judge_all.ensures)
+    omega (arith, words_long (call s) _ _ s.requires _ _ k.judge_all.ensures)
 
 sub_commit_2 : tie.Need-overflow-sub-commit-2
 sub_commit_2 c = search rules
@@ -88,7 +88,7 @@ commit_requires c κs =
     let t = z.before in
     let k = all_of t in
     let s = start k in
-    committable (call s) _ _ s.pre _ _ k.judge_all.ensures _ t.before.summarize.ensures (sym t.is_too_small.ensures ∙ z.if1.false)
+    committable (call s) _ _ s.requires _ _ k.judge_all.ensures _ t.before.summarize.ensures (sym t.is_too_small.ensures ∙ z.if1.false)
 
 same_length_3 : tie.Need-same-length-3
 same_length_3 c = search rules
@@ -108,8 +108,8 @@ returns_2 c =
     let s = start k in
     let f = k.judge_all.ensures in
     let e = t.before.summarize.ensures in
-    answered (call s) s.pre.ready.sound _ (told (call s) _ _ s.pre _ _ f _ e) _ _ (tried (call s) _ _ s.pre _ _ f) (sym t.is_too_small.ensures ∙ z.if1.false) _ _
-    (d.commit.ensures.marks_then ∙ marks_front (call s) _ _ s.pre _ _ f) (written (call s) _ _ s.pre _ _ f _ e _ _ _ d.commit.ensures) (known (call s) _ _ s.pre _ _ f _ e)
+    answered (call s) s.requires.ready.sound _ (told (call s) _ _ s.requires _ _ f _ e) _ _ (tried (call s) _ _ s.requires _ _ f) (sym t.is_too_small.ensures ∙ z.if1.false) _ _
+    (d.commit.ensures.marks_then ∙ marks_front (call s) _ _ s.requires _ _ f) (written (call s) _ _ s.requires _ _ f _ e _ _ _ d.commit.ensures) (known (call s) _ _ s.requires _ _ f _ e)
 
 pub judge_file_spec : {M : Type 1} → statement M
 judge_file_spec =
