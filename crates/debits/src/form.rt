@@ -13,6 +13,7 @@ pub const DEBITS: Layout = Layout {
 };
 
 // Whether the first character of a type is that of a debit.
+#[tactic(auto, unfolding(crate::specs::Form::is_debit_type))]
 fn is_debit_type(b: u8) -> bool
     ensures { result ≡ is_debit_type b }
 {
@@ -23,6 +24,7 @@ fn is_debit_type(b: u8) -> bool
 }
 
 // Whether a line can be an open debit. A line feed inside it is no fault.
+#[tactic(auto, using(lines::specs::NumberLaws::read_bad), unfolding(crate::specs::Form::debit_sound))]
 fn debit_sound(line: &[u8]) -> bool
     requires { length line.now ≡ line_width }
     ensures { result ≡ debit_sound line.now }
@@ -43,6 +45,7 @@ fn debit_sound(line: &[u8]) -> bool
 }
 
 // Whether each of n lines can be an open debit.
+#[tactic(auto, using(lines::specs::BelowLaws::all_zero, lines::specs::BelowLaws::all_more, crate::specs::FormLaws::debit_ends, crate::specs::FormLaws::debit_length), unfolding(crate::specs::Form::lines_sound, crate::specs::Form::debit_sound_at))]
 fn lines_sound(debits: &[u8], n: usize) -> bool
     requires { n * line_width ≤ length debits.now }
     ensures { result ≡ lines_sound debits.now n }
@@ -58,6 +61,7 @@ fn lines_sound(debits: &[u8], n: usize) -> bool
 }
 
 // Whether each mark is 0 or 1.
+#[tactic(auto, using(lines::specs::BelowLaws::all_zero, lines::specs::BelowLaws::all_more), unfolding(crate::specs::Form::marks_sound, crate::specs::Form::mark_sound_at))]
 fn marks_sound(marks: &[u8]) -> bool
     ensures { result ≡ marks_sound marks.now }
 {

@@ -13,6 +13,7 @@ pub enum Taken {
 }
 
 // Whether debit j is unmarked and agrees with the credit. The mark comes first: it is one byte, the columns are seventy.
+#[tactic(auto, unfolding(crate::specs::Taking::free_for, crate::specs::Taking::unmarked, crate::specs::Taking::agrees))]
 fn free_for(debits: &[u8], marks: &[u8], credit: &[u8], j: usize) -> bool
     requires { Lent debits.now marks.now credit.now × (j < length marks.now) }
     ensures { result ≡ free_for debits.now marks.now credit.now j }
@@ -24,6 +25,7 @@ fn free_for(debits: &[u8], marks: &[u8], credit: &[u8], j: usize) -> bool
 }
 
 // The place of the first unmarked debit that agrees with the credit, and the number of marks where there is none.
+#[tactic(auto, using(lines::specs::BelowLaws::some_zero, lines::specs::BelowLaws::some_more, lines::specs::BelowLaws::first_hit, lines::specs::BelowLaws::first_none), unfolding(crate::specs::Taking::place_taken))]
 fn first_free(debits: &[u8], marks: &[u8], credit: &[u8]) -> usize
     requires { Lent debits.now marks.now credit.now }
     ensures { result ≡ place_taken debits.now marks.now credit.now }
@@ -39,6 +41,7 @@ fn first_free(debits: &[u8], marks: &[u8], credit: &[u8]) -> usize
 }
 
 // The credit takes the first unmarked debit that agrees with it, and that debit's mark becomes 1.
+#[tactic(auto, using(crate::specs::TakingLaws::taken_some, crate::specs::TakingLaws::taken_none))]
 pub fn take_debit(debits: &[u8], marks: &mut [u8], credit: &[u8]) -> Taken
     requires { Lent debits.now marks.old credit.now }
     ensures { Took debits.now marks.old credit.now result marks.new }

@@ -17,7 +17,7 @@ use Rattle.tif.specs.Acceptance.{is_framed, framed_count, tif_lines, tif_header,
 use Rattle.tif.specs.Body.{line_at, line_sound, line_sound_at, body_sound, body_total}
 use Rattle.tif.specs.BodyLaws.{sum_small}
 use Rattle.tif.specs.Columns.{tif_layout, header_side, header_sender, header_receiver, header_sequence}
-use Rattle.tif.specs.Every.{every, every_first, every_rest}
+use Rattle.tif.specs.Every.{every_first, every_rest}
 use Rattle.tif.specs.Footer.{footer_sound, total_of}
 use Rattle.tif.specs.Header.{names_file, header_formed, header_sound, records_of, transactions_of, counts_agree}
 use Rattle.tif.specs.Judged.{SoundLine, SoundHeader, JudgedFile}

@@ -28,6 +28,7 @@ pub enum LineTest {
 const FUEL_CODE: Columns = Columns { from: 1, to: 2 };
 
 // Whether a field is digits.
+#[tactic(auto, unfolding(lines::specs::Number::all_digits))]
 fn has_digits(line: &[u8], c: Columns) -> bool
     requires { Inside c (length line.now) }
     ensures { result ≡ all_digits (field_of c line.now) }
@@ -68,6 +69,7 @@ fn is_of_side(side: Side, letter: u8) -> bool
 }
 
 // L1: whether the type is listed, and one of the file's side.
+#[tactic(auto, unfolding(crate::specs::LineTests::is_lawful_type))]
 pub fn is_lawful_type(line: &[u8], side: Side) -> bool
     requires { length line.now ≡ line_width }
     ensures { result ≡ is_lawful_type side line.now }
@@ -79,6 +81,7 @@ pub fn is_lawful_type(line: &[u8], side: Side) -> bool
 }
 
 // L2: whether the exit moment is real, and station, lane, counter and fee without VAT are digits.
+#[tactic(auto, unfolding(crate::specs::LineTests::fields_in_form, tif::specs::Every::every))]
 pub fn fields_in_form(line: &[u8]) -> bool
     requires { length line.now ≡ line_width }
     ensures { result ≡ fields_in_form line.now }
@@ -99,6 +102,7 @@ pub fn fields_in_form(line: &[u8]) -> bool
 }
 
 // L3: whether the exit actor is the sender.
+#[tactic(auto, unfolding(crate::specs::LineTests::is_from_sender))]
 pub fn is_from_sender(line: &[u8], sender: &[u8]) -> bool
     requires { length line.now ≡ line_width }
     ensures { result ≡ is_from_sender sender.now line.now }
@@ -107,6 +111,7 @@ pub fn is_from_sender(line: &[u8], sender: &[u8]) -> bool
 }
 
 // Whether a fuel of three bytes is a listed code followed by Y or N.
+#[tactic(auto, unfolding(crate::specs::LineTests::is_known_fuel, crate::specs::Tables::fuels, crate::specs::Tables::codes_of, lines::specs::Number::digits_of))]
 fn is_known_fuel(fuel: &[u8]) -> bool
     requires { length fuel.now ≡ 3 }
     ensures { result ≡ is_known_fuel fuel.now }
@@ -135,6 +140,7 @@ pub fn is_known_vehicle(line: &[u8]) -> bool
 }
 
 // L5: whether both plates are in form, each with its nation.
+#[tactic(auto, unfolding(crate::specs::LineTests::plates_in_form, tif::specs::Every::every))]
 pub fn plates_in_form(line: &[u8]) -> bool
     requires { length line.now ≡ line_width }
     ensures { result ≡ plates_in_form line.now }
@@ -146,6 +152,7 @@ pub fn plates_in_form(line: &[u8]) -> bool
 }
 
 // The first of L1, L2, L3, L9, L4 and L5 that a line fails; whether its station is known is told.
+#[tactic(auto, unfolding(crate::specs::LineTests::test_line, lines::specs::FirstOf::first_of))]
 pub fn test_line(line: &[u8], side: Side, sender: &[u8], known: bool) -> LineTest
     requires { length line.now ≡ line_width }
     ensures { result ≡ test_line side sender.now known line.now }

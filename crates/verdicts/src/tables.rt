@@ -20,6 +20,7 @@ pub const EMISSIONS: [u8; 18] = *b"000102030405060715";
 pub const FUELS: [u8; 32] = *b"01020304050609101112131415202122";
 
 // Whether a table has the code.
+#[tactic(auto, using(lines::specs::BelowLaws::some_zero, lines::specs::BelowLaws::some_more), unfolding(crate::specs::Tables::is_listed, crate::specs::Tables::code_is))]
 pub fn is_listed(table: &[u8], code: &[u8]) -> bool
     ensures { result ≡ is_listed table.now code.now }
 {

@@ -42,6 +42,7 @@ pub fn word_of(v: Verdict) -> u64
 }
 
 // The acceptance that a word with the number 0 is.
+#[tactic(auto, unfolding(crate::specs::Verdict::acceptance_of))]
 fn acceptance_of(word: u64) -> Verdict
     ensures { result ≡ acceptance_of word }
 {
@@ -58,6 +59,7 @@ fn acceptance_of(word: u64) -> Verdict
 }
 
 // The verdict that a word is.
+#[tactic(auto, unfolding(crate::specs::Verdict::verdict_of, lines::specs::FirstOf::first_of))]
 pub fn verdict_of(word: u64) -> Verdict
     ensures { result ≡ verdict_of word }
 {

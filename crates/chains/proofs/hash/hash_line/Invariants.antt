@@ -1,11 +1,7 @@
-use native.Mathlib.Omega.{arith}
-use Prim.Native.Nat.{ℕ, ◌-◌, ◌/◌, ◌%◌, ◌≤◌, ◌<◌}
-use mathlib.Core.Path.{◌≡◌, sym, ap, ◌∙◌}
-use mathlib.Core.List.{List}
-use borrow.Author.Rules.{rules}
-use Rattle.lines.specs.Spans.{span_count, span_of, span_within}
-use Rattle.chains.specs.Hash.{mix_text, mix_spans, folded, hash_of}
-use Rattle.chains.specs.HashLaws.{spans_zero, spans_suc}
+use Prim.Native.Nat.{◌-◌, ◌≤◌, ◌<◌}
+use mathlib.Core.Path.{◌≡◌}
+use Rattle.lines.specs.Spans.{span_count}
+use Rattle.chains.specs.Hash.{mix_spans}
 use Rattle.chains.proofs.hash.hash_line.Given as goal
 
 abbrev pub invariant-loop-m : goal.invariant-loop-m

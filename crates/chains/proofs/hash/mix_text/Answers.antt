@@ -1,9 +1,7 @@
 use native.Mathlib.Omega.{arith}
-use Prim.Native.Nat.{◌-◌, ◌≤◌, ◌<◌}
 use mathlib.Core.Path.{◌≡◌, sym, ◌∙◌}
 use lib.ListN.{length}
 use borrow.Author.Rules.{rules}
-use Rattle.chains.specs.Hash.{mix_bytes}
 use Rattle.chains.specs.HashLaws.{bytes_zero, bytes_suc}
 use Rattle.chains.proofs.hash.mix_text.Goals as goal
 
@@ -12,12 +10,10 @@ loop-i-init c = (sym (bytes_zero _ _), search rules, omega arith)
 
 pub loop-i-preserved : goal.loop-i-preserved
 loop-i-preserved c =
-    let l = c in
-    let a = l.args in
-    (c.mix-x.ensures.0 ∙ cc (c.wide.ensures.0, l.loop-i.invariant.0, bytes_suc a.h a.text.now l.loop-i.i), omega arith, omega arith)
+    let a = c.args in
+    (c.mix-x.ensures.0 ∙ cc (c.wide.ensures.0, c.loop-i.invariant.0, bytes_suc a.h a.text.now c.loop-i.i), omega arith, omega arith)
 
 pub returns : goal.returns
 returns c =
-    let l = c in
-    let e : l.loop-i.i ≡ length l.args.text.now = omega arith in
-    record { value = rw e at l.loop-i.invariant.0; small = l.loop-i.invariant.1 }
+    let e : c.loop-i.i ≡ length c.args.text.now = omega arith in
+    record { value = rw e at c.loop-i.invariant.0; small = c.loop-i.invariant.1 }

@@ -1,10 +1,7 @@
-use native.Mathlib.Omega.{arith}
 use Prim.Native.Nat.{◌-◌, ◌≤◌, ◌<◌}
-use mathlib.Core.Path.{◌≡◌, sym, ◌∙◌}
+use mathlib.Core.Path.{◌≡◌}
 use lib.ListN.{length}
-use borrow.Author.Rules.{rules}
 use Rattle.chains.specs.Hash.{mix_bytes}
-use Rattle.chains.specs.HashLaws.{bytes_zero, bytes_suc}
 use Rattle.chains.proofs.hash.mix_text.Given as goal
 
 abbrev pub invariant-loop-i : goal.invariant-loop-i

@@ -1,7 +1,4 @@
 use native.Mathlib.Omega.{arith}
-use Prim.Native.Nat.{ℕ, ◌-◌, ◌≤◌, ◌<◌}
-use mathlib.Core.Path.{◌≡◌}
-use lib.ListN.{length, get_or}
 use borrow.Author.Rules.{rules}
 use Rattle.chains.specs.IndexLaws.{clear_more}
 use Rattle.chains.proofs.index.clear.Goals as goal

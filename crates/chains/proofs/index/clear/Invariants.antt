@@ -1,9 +1,6 @@
-use native.Mathlib.Omega.{arith}
 use Prim.Native.Nat.{ℕ, ◌-◌, ◌≤◌, ◌<◌}
 use mathlib.Core.Path.{◌≡◌}
 use lib.ListN.{length, get_or}
-use borrow.Author.Rules.{rules}
-use Rattle.chains.specs.IndexLaws.{clear_more}
 use Rattle.chains.proofs.index.clear.Given as goal
 
 abbrev pub invariant-loop-i : goal.invariant-loop-i

@@ -2,7 +2,6 @@ use native.Mathlib.Omega.{arith}
 use Prim.Native.Nat.{ℕ, ◌+◌}
 use mathlib.Core.Path.{◌≡◌, ap, ◌∙◌}
 use lib.ListN.{get_or, set}
-use borrow.Author.Rules.{rules}
 use Rattle.chains.specs.Hash.{hash_of}
 use Rattle.chains.specs.Index.{hash_at}
 use Rattle.chains.specs.IndexLaws.{line_there, line_spanned}
@@ -11,13 +10,11 @@ use Rattle.chains.proofs.index.enter.Goals.{After-hash_line-h}
 
 pub line_of-requires : goal.line_of-requires
 line_of-requires c =
-    let s = c in
-    line_there _ _ _ (s.args.k + 1) s.args.k s.requires.0 (omega arith)
+    line_there _ _ _ (c.args.k + 1) c.args.k c.requires.ruled (omega arith)
 
 pub hash_line-h-requires : goal.hash_line-h-requires
 hash_line-h-requires c =
-    let s = c in
-    rw c.line_of.ensures (line_spanned _ _ _ (s.args.k + 1) s.args.k s.requires.0 (omega arith))
+    rw c.line_of.ensures (line_spanned _ _ _ (c.args.k + 1) c.args.k c.requires.ruled (omega arith))
 
 -- the hash is that of line k
 hashed : (c : After-hash_line-h) →

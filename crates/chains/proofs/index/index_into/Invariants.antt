@@ -1,10 +1,7 @@
-use native.Mathlib.Omega.{arith}
-use Prim.Native.Nat.{◌+◌, ◌-◌, ◌≤◌}
+use Prim.Native.Nat.{◌-◌, ◌≤◌}
 use mathlib.Core.Path.{◌≡◌}
 use lib.ListN.{length}
-use borrow.Author.Rules.{rules}
 use Rattle.chains.specs.Index.{Indexed}
-use Rattle.chains.specs.IndexLaws.{ruled_fewer, index_zero, index_more}
 use Rattle.chains.proofs.index.index_into.Given as goal
 
 abbrev pub invariant-loop-k : goal.invariant-loop-k

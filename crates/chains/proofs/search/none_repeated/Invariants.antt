@@ -1,11 +1,8 @@
-use native.Mathlib.Omega.{arith}
 use Prim.Native.Nat.{◌-◌, ◌≤◌}
-use mathlib.Core.Path.{◌≡◌, sym, ap, ◌∙◌}
-use mathlib.Core.Bool.{true, not}
-use borrow.Author.Rules.{rules}
+use mathlib.Core.Path.{◌≡◌}
+use mathlib.Core.Bool.{true}
 use Rattle.lines.specs.Below.{all_below}
-use Rattle.lines.specs.BelowLaws.{all_zero, all_more, all_fails}
-use Rattle.chains.specs.Index.{fresh_at, all_different}
+use Rattle.chains.specs.Index.{fresh_at}
 use Rattle.chains.proofs.search.none_repeated.Given as goal
 
 abbrev pub invariant-loop-k : goal.invariant-loop-k

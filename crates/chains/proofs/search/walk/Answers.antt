@@ -2,20 +2,17 @@ use native.Mathlib.Omega.{arith}
 use Prim.Native.Nat.{ℕ, ◌-◌}
 use mathlib.Core.Path.{◌≡◌, sym, ap, ◌∙◌}
 use mathlib.Core.List.{List}
-use borrow.Author.Rules.{rules}
 use Rattle.lines.specs.Spans.{agree_across}
 use Rattle.chains.specs.Index.{agrees_with}
 use Rattle.chains.specs.IndexLaws.{line_there, line_spanned}
-use Rattle.chains.specs.Chain.{OnChain}
 use Rattle.chains.specs.ChainLaws.{chain_start, chain_falls, chain_down, chain_hit, chain_end}
 use Rattle.chains.proofs.search.walk.Goals as goal
 use Rattle.chains.proofs.search.walk.Goals.{After-agree_across}
 
 -- what the test of a turn says
 tested : (c : After-agree_across) →
-    let l = c in
-    let a = l.args in
-    agrees_with a.layout a.file.now a.spans.now a.ts.now a.other.now (l.loop-link.link - 1) ≡ c.agree_across.result
+    let a = c.args in
+    agrees_with a.layout a.file.now a.spans.now a.ts.now a.other.now (c.loop-link.link - 1) ≡ c.agree_across.result
 unfolding agrees_with
 tested c =
     let a = c.args in
@@ -26,35 +23,29 @@ loop-link-init c = chain_start _ _ _ _ _ _ _ c.requires
 
 pub line_of-requires : goal.line_of-requires
 line_of-requires c =
-    let l = c in
-    line_there _ _ _ l.args.start (l.loop-link.link - 1) l.requires.ruled (omega arith)
+    line_there _ _ _ c.args.start (c.loop-link.link - 1) c.requires.ruled (omega arith)
 
 pub agree_across-requires : goal.agree_across-requires
 agree_across-requires c =
-    let l = c in
-    let w = l.requires in
+    let w = c.requires in
     record {
-      first = rw c.line_of.ensures (line_spanned _ _ _ l.args.start (l.loop-link.link - 1) w.ruled (omega arith));
+      first = rw c.line_of.ensures (line_spanned _ _ _ c.args.start (c.loop-link.link - 1) w.ruled (omega arith));
       second = w.asked.inside;
       paired = w.asked.paired;
     }
 
 pub returns-then-agree_across : goal.returns-then-agree_across
 returns-then-agree_across c =
-    let l = c in
-    sym (chain_hit _ _ _ _ _ _ _ l.requires l.loop-link.link l.loop-link.invariant (omega arith) (tested (goal.at.returns-then-agree_across c).After-agree_across ∙ c.if-agree_across.true))
+    sym (chain_hit _ _ _ _ _ _ _ c.requires c.loop-link.link c.loop-link.invariant (omega arith) (tested (goal.at.returns-then-agree_across c).After-agree_across ∙ c.if-agree_across.true))
 
 pub loop-link-smaller : goal.loop-link-smaller
 loop-link-smaller c =
-    let l = c in
-    rw c.link_of-link.ensures (chain_falls _ _ _ _ _ _ _ l.requires l.loop-link.link l.loop-link.invariant (omega arith))
+    rw c.link_of-link.ensures (chain_falls _ _ _ _ _ _ _ c.requires c.loop-link.link c.loop-link.invariant (omega arith))
 
 pub loop-link-preserved : goal.loop-link-preserved
 loop-link-preserved c =
-    let l = c in
-    rw c.link_of-link.ensures (chain_down _ _ _ _ _ _ _ l.requires l.loop-link.link l.loop-link.invariant (omega arith) (tested (goal.at.loop-link-preserved c).After-agree_across ∙ c.if-agree_across.false))
+    rw c.link_of-link.ensures (chain_down _ _ _ _ _ _ _ c.requires c.loop-link.link c.loop-link.invariant (omega arith) (tested (goal.at.loop-link-preserved c).After-agree_across ∙ c.if-agree_across.false))
 
 pub returns : goal.returns
 returns c =
-    let l = c in
-    sym (chain_end _ _ _ _ _ _ _ l.requires l.loop-link.link l.loop-link.invariant (omega arith))
+    sym (chain_end _ _ _ _ _ _ _ c.requires c.loop-link.link c.loop-link.invariant (omega arith))

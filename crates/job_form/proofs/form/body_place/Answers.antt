@@ -1,8 +1,6 @@
 use native.Mathlib.Omega.{arith}
-use Prim.Native.Nat.{◌+◌, ◌-◌, ◌*◌, ◌≤◌}
 use mathlib.Core.Path.{◌≡◌, sym}
 use borrow.Author.Rules.{rules}
-use Rattle.job_form.specs.Form.{body_place}
 use Rattle.job_form.specs.FormLaws.{place_zero, place_suc}
 use Rattle.job_form.proofs.form.body_place.Goals as goal
 
@@ -14,12 +12,10 @@ overflow_add-at c = omega (arith, c.loop-i.invariant.1, c.length_at-at.ensures.s
 
 pub loop-i-preserved : goal.loop-i-preserved
 loop-i-preserved c =
-    let l = c in
-    let a = l.args in
-    (omega (arith, place_suc a.job.now l.loop-i.i, c.length_at-at.ensures.value, l.loop-i.invariant.0), omega (arith, c.length_at-at.ensures.small, l.loop-i.invariant.1), omega arith)
+    let a = c.args in
+    (omega (arith, place_suc a.job.now c.loop-i.i, c.length_at-at.ensures.value, c.loop-i.invariant.0), omega (arith, c.length_at-at.ensures.small, c.loop-i.invariant.1), omega arith)
 
 pub returns : goal.returns
 returns c =
-    let l = c in
-    let e : l.loop-i.i ≡ l.args.k = omega arith in
-    rw e at l.loop-i.invariant.0
+    let e : c.loop-i.i ≡ c.args.k = omega arith in
+    rw e at c.loop-i.invariant.0

@@ -1,9 +1,6 @@
-use native.Mathlib.Omega.{arith}
 use Prim.Native.Nat.{◌+◌, ◌-◌, ◌*◌, ◌≤◌}
-use mathlib.Core.Path.{◌≡◌, sym}
-use borrow.Author.Rules.{rules}
+use mathlib.Core.Path.{◌≡◌}
 use Rattle.job_form.specs.Form.{body_place}
-use Rattle.job_form.specs.FormLaws.{place_zero, place_suc}
 use Rattle.job_form.proofs.form.body_place.Given as goal
 
 abbrev pub invariant-loop-i : goal.invariant-loop-i

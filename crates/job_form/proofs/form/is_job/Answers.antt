@@ -2,7 +2,6 @@ use native.Mathlib.Omega.{arith}
 use Prim.Native.Nat.{ℕ}
 use mathlib.Core.Path.{sym, ap, ◌∙◌}
 use lib.ListN.{length}
-use borrow.Author.Rules.{rules}
 use lib.Dec.{eqb}
 use Rattle.job_form.specs.FormLaws.{too_long, too_short, is_filled}
 use Rattle.job_form.proofs.form.is_job.Goals as goal

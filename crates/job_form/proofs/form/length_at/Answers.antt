@@ -2,7 +2,6 @@ use native.Mathlib.Omega.{arith}
 use Prim.Native.Nat.{ℕ, ◌+◌, ◌-◌, ◌*◌}
 use mathlib.Core.Path.{◌≡◌, ap, ◌∙◌}
 use lib.ListN.{take, drop}
-use borrow.Author.Rules.{rules}
 use Rattle.lines.specs.Number.{big_endian}
 use Rattle.job_form.specs.Form.{length_at}
 use Rattle.job_form.specs.FormLaws.{four_bytes}
