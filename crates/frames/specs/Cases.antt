@@ -1,15 +1,9 @@
--- What reading takes from the bytes that a reader is known to have. Assumes nothing.
-use Rattle.std.specs.Prelude.{◌≡◌, ◌⊎◌, ℕ, ◌<◌, ◌≤◌, List, [], ◌∷◌, ◌++◌, Option, length, take}
+-- What reading a case takes from the bytes that a reader is known to have. Assumes nothing.
+use Rattle.std.specs.Prelude.{◌≡◌, ◌⊎◌, ℕ, ◌<◌, List, [], ◌∷◌, ◌++◌, Option, length, take}
 use Rattle.std.specs.Io.KnownBytes.{Consumes, IsAtEnd}
 use Rattle.lines.specs.Number.{big_endian}
 use Rattle.frames.specs.declared.input.Kind.{Kind}
 use Rattle.frames.specs.declared.input.Kind.TheVariants.{Of, End}
-
--- some of the bytes may be gone, from the front and no more than n
-pub record LosesAtMost (old new : Option (List ℕ)) (n : ℕ) : Type 0 where
-  pub gone : List ℕ
-  pub taken : Consumes old new gone
-  pub few : length gone ≤ n
 
 -- the kind is the next byte, which is gone, or there was no byte
 abbrev pub ReadsKind : Option (List ℕ) → Option (List ℕ) → Kind → Type 0
