@@ -159,6 +159,8 @@ class Turn:
                 self.fields.setdefault(step[1], {}).update(map(tuple, facts))
         self.loops = {norm(pair[0]): (pair[1], vs, ch) for (pair, vs), ch in zip(entry["loops"], entry["changed"])}
         self.goals, self.helpers, self.gives, self.trouble = {}, {}, {}, []
+        self.callees = {norm(step[0]): callee for old, up, step, callee, facts in entry["places"] if step and step[0] and callee}
+        self.params = entry["params"]
         self.arms = {}
         for arm in entry["arms"]:
             if arm:
@@ -180,37 +182,58 @@ class Turn:
                 return 0
         return n
 
-    def steps_in(self, text):
+    def steps_in(self, text, me="c"):
         """Drops `.before`, and gives steps and their fields today's names."""
-        text = re.sub(r"\.before(?![\w'-])", "", text)
+        contexts, called = {me, "c"}, {}
+        for name, root, way in re.findall(rf"let (\w+) = (\w+)((?:\.(?:{NAME}|\d+))*) in", text):
+            parts = [q for q in way[1:].split(".") if q and q != "before"]
+            if root in contexts and not parts:
+                contexts.add(name)
+            elif root in contexts and len(parts) == 1 and norm(parts[0]) in self.callees:
+                called[name] = self.callees[norm(parts[0])]
+            elif name in contexts:
+                contexts.discard(name)
 
-        def arm(m):
-            old, way = norm(m.group(1)), m.group(2)[1:].split(".")
-            for n in range(len(way), 0, -1):
-                found = self.arms.get((old, tuple(way[:n])))
+        def news(callee, parts, i):
+            """`.new.1.0`, by places, as `.new.NAME`."""
+            params = self.params.get(callee)
+            if params and len(parts) > i + 1 and parts[i] == "new" and parts[i + 1].isdigit():
+                n, j = 0, i + 1
+                while j < len(parts) and parts[j] == "1" and n < len(params) - 1:
+                    n, j = n + 1, j + 1
+                if n < len(params) - 1 and j < len(parts) and parts[j] == "0":
+                    j += 1
+                elif n < len(params) - 1:
+                    return parts
+                return parts[:i + 1] + [params[n]] + parts[j:]
+            return parts
+
+        def chain(m):
+            parts = [q for q in m.group(2)[1:].split(".") if q != "before"]
+            if m.group(1) in called:
+                return ".".join([m.group(1), *news(called[m.group(1)], parts, 0)])
+            if m.group(1) not in contexts:
+                return ".".join([m.group(1), *m.group(2)[1:].split(".")])
+            if not parts:
+                return m.group(1)
+            old = norm(parts[0])
+            for n in range(len(parts) - 1, 0, -1):
+                found = self.arms.get((old, tuple(parts[1:n + 1])))
                 if found:
                     if len(found) > 1:
                         self.trouble.append(f"arm {m.group()} is one of {found}")
-                    a, field = found[0]
-                    return f".{a}.{field}" + "".join("." + w for w in way[n:])
-            return m.group()
+                    return ".".join([m.group(1), *found[0], *parts[n + 1:]])
+            if old in self.steps:
+                new = self.steps[old]
+                if len(new) > 1:
+                    self.trouble.append(f"step {parts[0]} is one of {new}")
+                parts = news(self.callees.get(old), parts, 1)
+                parts[0] = new[0]
+                if len(parts) > 1:
+                    parts[1] = self.fields.get(new[0], {}).get(parts[1], parts[1])
+            return ".".join([m.group(1), *parts])
 
-        text = re.sub(rf"(?<=[\w')])\.({NAME})((?:\.[\w'-]+)+)", arm, text)
-
-        def one(m):
-            old = norm(m.group(1))
-            if old not in self.steps:
-                return m.group()
-            new = self.steps[old]
-            if len(new) > 1:
-                self.trouble.append(f"step {m.group(1)} is one of {new}")
-            new = new[0]
-            field = m.group(2)
-            if field and field[1:] in self.fields.get(new, {}):
-                field = "." + self.fields[new][field[1:]]
-            return "." + new + (field or "")
-
-        return re.sub(rf"(?<=[\w')])\.({NAME})(\.{NAME})?", one, text)
+        return re.sub(rf"(?<![\w.'-])([A-Za-z_][\w'₀-₉]*)((?:\.(?:{NAME}|\d+))+)", chain, text)
 
     def helpers_in(self, text, goal, place=None, me="c"):
         """Gives each helper the context that it is of: in an answer by the goal, in a helper by steps up."""
@@ -296,28 +319,37 @@ def turn(entry, path, fn_path):
         return re.search(rf"(?<![\w.'-]){re.escape(h)}(?![\w'-])", "\n".join(it.sign[:1] if False else it.sign + it.body))
 
     hs = [it for it in its if it.kind == "helper" and it.name in t.helpers]
-    for h in hs:
-        used_low = any(o is not h and calls(o, h.name) and getattr(o, "place", None) != h.place for o in hs)
-        if not ("abbrev" in h.prefix or used_low):
-            continue
-        c = clause(h)
-        if c is None:
-            continue
-        everywhere = "abbrev" in h.prefix
-        for o in its:
-            if o is h or not (everywhere or o in hs):
-                continue
-            o.sign = [o.sign[0].split(" : ", 1)[0] + " : " + inline("\n".join(o.sign).split(" : ", 1)[1], h.name, *c)] if calls(o, h.name) else o.sign
-            before = "\n".join(o.body)
-            after = inline(before, h.name, *c)
-            if after != before:
-                o.body = after.split("\n")
-                for u in h.unfold:
-                    if not everywhere and u not in o.unfold:
-                        o.unfold.append(u)
-        if everywhere:
-            h.kind = "gone"
-            t.helpers.pop(h.name)
+    for _ in range(8):
+      changed = False
+      for h in [h for h in hs if h.kind != "gone"]:
+          used_low = any(o is not h and calls(o, h.name) and getattr(o, "place", None) != h.place for o in hs)
+          if not ("abbrev" in h.prefix or used_low):
+              continue
+          c = clause(h)
+          if c is None:
+              continue
+          everywhere = "abbrev" in h.prefix
+          said = re.match(rf".*?\((\w+) : tie\.[^)]*\)\s*→\s*(.*)$", "\n".join(h.sign), re.S)
+          if not everywhere and len(c[0]) == 1 and said and ("omega" in c[1] or "search" in c[1] or "(cc)" in c[1]):
+              goal_type = re.sub(rf"(?<![\w.'-]){said.group(1)}(?![\w'-])", c[0][0], said.group(2))
+              c = (c[0], f"let it : ({goal_type}) = {c[1]} in it")
+          for o in its:
+              if o is h or not (everywhere or o in hs):
+                  continue
+              o.sign = [o.sign[0].split(" : ", 1)[0] + " : " + inline("\n".join(o.sign).split(" : ", 1)[1], h.name, *c)] if calls(o, h.name) else o.sign
+              before = "\n".join(o.body)
+              after = inline(before, h.name, *c)
+              if after != before:
+                  changed = True
+                  o.body = after.split("\n")
+                  for u in h.unfold:
+                      if not everywhere and u not in o.unfold:
+                          o.unfold.append(u)
+          if everywhere:
+              h.kind = "gone"
+              t.helpers.pop(h.name)
+      if not changed:
+          break
     for it in its:
         body = "\n".join(it.body).rstrip()
         if it.kind == "given":
@@ -366,7 +398,7 @@ def turn(entry, path, fn_path):
                 body = t.helpers_in(body, None, it.place, me)
                 if sign_me:
                     sign = t.helpers_in(sign, None, it.place, sign_me.group(1))
-            out = [t.steps_in(sign)] + it.unfold + [t.steps_in(body), ""]
+            out = [t.steps_in(sign, sign_me.group(1) if sign_me else "c")] + it.unfold + [t.steps_in(body, me), ""]
             answers += it.notes + [o.replace(".BEFORE", ".before") for o in out]
         elif it.kind == "gone":
             continue
@@ -388,7 +420,15 @@ def turn(entry, path, fn_path):
             else:
                 i += 1
 
-    given, answers = [tidy(x) for x in given], [tidy(x) for x in answers]
+    def own_name(s):
+        """A second name of the context is written as the first."""
+        while True:
+            m = re.search(r"let (\w+) = (\w) in\s*", s)
+            if not m or m.group(2) not in ("c", "l", "s") or m.group(1) == m.group(2):
+                return s
+            s = s[:m.start()] + re.sub(rf"(?<![\w.'-]){m.group(1)}(?![\w'-])", m.group(2), s[m.end():])
+
+    given, answers = [tidy(x) for x in given], [own_name(tidy(x)) for x in answers]
     base = fn_path
     keep = []
     for u in "\n".join(uses).split("\nuse "):

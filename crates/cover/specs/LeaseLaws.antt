@@ -1,4 +1,4 @@
--- Lease references are never read: two books that differ only in them have the same form, and the same cover for every passage, for every width of a period.
+-- Lease references are never read: two books that differ only in them have the same form, for every width of a period. That they have the same cover stands in proofs/LeaseCoverLaws.
 -- Assumes nothing.
 use Rattle.std.specs.Prelude.{◌≡◌, length, get_or, take, drop}
 use Rattle.std.proofs.Common.{sym, ◌∙◌, not-suc-le-zero, length-take, length-drop, ext_get_or, get_or-take, get_or-drop}
@@ -6,9 +6,9 @@ use Rattle.std.proofs.Math.Path.{ap}
 use mathlib.Core.List.{List}
 use Prim.Native.Nat.{ℕ, zero, suc, ◌+◌, ◌-◌, ◌≤◌, ◌<◌}
 use native.Mathlib.Omega.{arith}
-use Rattle.lines.specs.Below.{all_below, first_below}
+use Rattle.lines.specs.Below.{all_below}
 use Rattle.lines.specs.BelowLaws.{below_suc}
-use Rattle.lines.specs.BelowSame.{all_same, first_same}
+use Rattle.lines.specs.BelowSame.{all_same}
 use Rattle.lines.specs.Columns.{cols}
 use Rattle.lines.specs.Number.{big_endian}
 use Rattle.lines.specs.Rows.{line_place, line_of}
@@ -16,7 +16,6 @@ use Rattle.book.specs.Layout.{agreements, entry_layout, entry_of, pan_of, offset
 use Rattle.book.specs.LayoutLaws.{entry_ends, period_ends}
 use Rattle.book.specs.Form.{follows_at, period_sound_at, periods_sound, body_sound, rises_at, entry_sound_at, entries_sound, agreement_sound, agreement_sound_at, bodies_sound, head_sound, book_sound, book_form}
 use Rattle.cover.specs.OrderLaws.{either_side}
-use Rattle.cover.specs.Cover.{Asked, asking, covers_at, covering_period, has_cover, pan_is, agreement_of, covering_agreement, cover_in, cover_of}
 use Rattle.cover.specs.Lease.{OutsideLeases, SameButLeases}
 
 -- ---- parts of two lists that agree there
@@ -76,7 +75,7 @@ module _ (w : ℕ) (book : List ℕ) where
 
 -- ---- everything that is read is the same
 module _ (w : ℕ) (a b : List ℕ) (s : SameButLeases w a b) where
-  same_agreements : agreements a ≡ agreements b
+  pub same_agreements : agreements a ≡ agreements b
   unfolding agreements
   same_agreements = ap big_endian (part_same a b s.long 0 2 (λ k h t. s.alike k (outside_front w a k (omega arith))))
 
@@ -86,7 +85,7 @@ module _ (w : ℕ) (a b : List ℕ) (s : SameButLeases w a b) where
       part_same a b s.long (line_place entry_layout i) 23
       (λ k f t. s.alike k (outside_front w a k (omega (arith, entry_ends (agreements a) i h))))
 
-  same_pan : (i : ℕ) → i < agreements a → pan_of a i ≡ pan_of b i
+  pub same_pan : (i : ℕ) → i < agreements a → pan_of a i ≡ pan_of b i
   unfolding pan_of
   same_pan i h = ap (cols 1 19) (same_entry i h)
 
@@ -94,7 +93,7 @@ module _ (w : ℕ) (a b : List ℕ) (s : SameButLeases w a b) where
   unfolding offset_of
   same_offset i h = ap (λ (e : List ℕ). big_endian (cols 20 23 e)) (same_entry i h)
 
-  same_periods : (i : ℕ) → periods_at a (body_place w a i) ≡ periods_at b (body_place w a i)
+  pub same_periods : (i : ℕ) → periods_at a (body_place w a i) ≡ periods_at b (body_place w a i)
   unfolding periods_at body_head body_end
   same_periods i =
       ap big_endian
@@ -105,12 +104,12 @@ module _ (w : ℕ) (a b : List ℕ) (s : SameButLeases w a b) where
   unfolding body_end
   same_end i = ap (body_of w (body_place w a i)) (same_periods i)
 
-  same_place : (i : ℕ) → body_place w a i ≡ body_place w b i
+  pub same_place : (i : ℕ) → body_place w a i ≡ body_place w b i
   unfolding body_place
   same_place zero = ap (line_place entry_layout) same_agreements
   same_place (suc i) = same_end i ∙ ap (body_end w b) (same_place i)
 
-  same_period : (i j : ℕ) → j < periods_at a (body_place w a i) → period_of w a (body_place w a i) j ≡ period_of w b (body_place w a i) j
+  pub same_period : (i j : ℕ) → j < periods_at a (body_place w a i) → period_of w a (body_place w a i) j ≡ period_of w b (body_place w a i) j
   unfolding period_of line_of body_end
   same_period i j h =
       part_same a b s.long (line_place (period_layout w (body_place w a i)) j) w
@@ -155,39 +154,3 @@ module _ (w : ℕ) (a b : List ℕ) (s : SameButLeases w a b) where
   pub same_form : book_form w a ≡ book_form w b
   unfolding book_form
   same_form = rw same_sound
-
-  -- ---- the cover
-  module _ (q : Asked) where
-    same_covering : (i : ℕ) → covering_period w a (body_place w a i) q ≡ covering_period w b (body_place w b i) q
-    unfolding covering_period covers_at
-    same_covering i =
-        let at = body_place w a i in
-        first_same (covers_at w a at q) (covers_at w b at q) (periods_at a at) (λ j h. rw (same_period i j h))
-        ∙ ap (λ (n : ℕ). first_below n (covers_at w b at q)) (same_periods i)
-        ∙ ap (λ (p : ℕ). first_below (periods_at b p) (covers_at w b p q)) (same_place i)
-
-    same_has : (i : ℕ) → has_cover w a q i ≡ has_cover w b q i
-    unfolding has_cover
-    same_has i = rw (same_covering i, same_periods i, same_place i)
-
-    same_agreement_of : (pan : List ℕ) → agreement_of a pan ≡ agreement_of b pan
-    unfolding agreement_of pan_is
-    same_agreement_of pan =
-        first_same (pan_is a pan) (pan_is b pan) (agreements a) (λ i h. rw (same_pan i h))
-        ∙ ap (λ (n : ℕ). first_below n (pan_is b pan)) same_agreements
-
-    same_covering_agreement : (pan : List ℕ) → covering_agreement w a pan q ≡ covering_agreement w b pan q
-    unfolding covering_agreement
-    same_covering_agreement pan =
-        rw (same_agreement_of pan, first_same (has_cover w a q) (has_cover w b q) (agreements a) (λ i h. same_has i), same_agreements)
-
-    same_cover_in : (i : ℕ) → cover_in w a q i ≡ cover_in w b q i
-    unfolding cover_in
-    same_cover_in i = rw (same_has i, same_covering i, same_agreements)
-
-  -- the same cover for every passage, also where the books are not sound
-  pub same_cover : (pan moment plate nation : List ℕ) → cover_of w a pan moment plate nation ≡ cover_of w b pan moment plate nation
-  unfolding cover_of
-  same_cover pan moment plate nation =
-      let q = asking pan moment plate nation in
-      same_cover_in q (covering_agreement w a pan q) ∙ ap (cover_in w b q) (same_covering_agreement q pan)

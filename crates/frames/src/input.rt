@@ -1,6 +1,9 @@
-ghost use Rattle.std.specs.Prelude.{◌≤◌, length};
+ghost use Rattle.std.specs.Prelude.{◌≡◌, ◌+◌, ◌<◌, ◌≤◌, true, false, length, take, IfOk, OnErr};
+ghost use Rattle.std.specs.Io.KnownBytes.{Consumes, IsAtEnd};
+ghost use Rattle.frames.specs.Reads.{LosesAtMost, ReadsKind, ReadsSize, ReadsPart, LacksPart};
 
-use libc::STDIN_FILENO;
+use std::io;
+use std::io::Read;
 
 // What stands where a case begins.
 #[derive(Clone, Copy)]
@@ -22,41 +25,71 @@ const NO_PART: Part = Part {
     size: 0,
 };
 
-// Reads the kind of the next case.
-pub fn read_kind() -> Kind {
-    let mut one = [0u8; 1];
-    if io::read_full(STDIN_FILENO, &mut one) < 1 {
-        return Kind::End;
+// Reads until buf is full or the input ends, and says how many bytes it put at the front of buf.
+// A read that a signal interrupts counts as one that failed.
+pub fn read_full<R: Read>(from: &mut R, buf: &mut [u8]) -> io::Result<usize>
+    ensures within { IfOk result (λ n. n ≤ length buf.new) }
+    ensures bytes { IfOk result (λ n. Consumes (R.remaining from.old) (R.remaining from.new) (take n buf.new)) }
+    ensures end { IfOk result (λ n. n < length buf.new → IsAtEnd (R.remaining from.new)) }
+    ensures err { OnErr result (LosesAtMost (R.remaining from.old) (R.remaining from.new) (length buf.new)) }
+{
+    let mut done = 0;
+    while done < buf.len() {
+        let n = from.read(&mut buf[done..])?;
+        if n == 0 {
+            return Ok(done);
+        }
+        done += n;
     }
-    Kind::Of(one[0])
+    Ok(done)
+}
+
+// Reads the kind of the next case.
+pub fn read_kind<R: Read>(from: &mut R) -> io::Result<Kind>
+    ensures ok { IfOk result (ReadsKind (R.remaining from.old) (R.remaining from.new)) }
+    ensures err { OnErr result (LosesAtMost (R.remaining from.old) (R.remaining from.new) 1) }
+{
+    let mut one = [0u8; 1];
+    if read_full(from, &mut one)? < 1 {
+        return Ok(Kind::End);
+    }
+    Ok(Kind::Of(one[0]))
 }
 
 // Reads four bytes, the length of a part.
-fn read_size() -> Part {
+fn read_size<R: Read>(from: &mut R) -> io::Result<Part>
+    ensures ok { IfOk result (λ part. part.whole ≡ true → ReadsSize (R.remaining from.old) (R.remaining from.new) part.size) }
+    ensures missing { IfOk result (λ part. part.whole ≡ false → IsAtEnd (R.remaining from.new)) }
+    ensures err { OnErr result (LosesAtMost (R.remaining from.old) (R.remaining from.new) 4) }
+{
     let mut head = [0u8; 4];
-    if io::read_full(STDIN_FILENO, &mut head) < 4 {
-        return NO_PART;
+    if read_full(from, &mut head)? < 4 {
+        return Ok(NO_PART);
     }
-    Part {
+    Ok(Part {
         whole: true,
         size: lines::big_endian(&head),
-    }
+    })
 }
 
 // Reads a part into the front of buf: its length, then its bytes.
-pub fn read_part(buf: &mut [u8]) -> Part
-    ensures { result.size ≤ length buf.new }
+#[tactic(auto, using(crate::proofs::Losses::loses_after_size, crate::proofs::Losses::lacks_room))]
+pub fn read_part<R: Read>(from: &mut R, buf: &mut [u8]) -> io::Result<Part>
+    ensures within { IfOk result (λ part. part.size ≤ length buf.new) }
+    ensures ok { IfOk result (λ part. part.whole ≡ true → ReadsPart (R.remaining from.old) (R.remaining from.new) part.size buf.new) }
+    ensures missing { IfOk result (λ part. part.whole ≡ false → LacksPart (R.remaining from.old) (R.remaining from.new) (length buf.old)) }
+    ensures err { OnErr result (LosesAtMost (R.remaining from.old) (R.remaining from.new) (4 + length buf.new)) }
 {
-    let part = read_size();
+    let part = read_size(from)?;
     if !part.whole {
-        return NO_PART;
+        return Ok(NO_PART);
     }
     let size = part.size;
     if size > buf.len() {
-        return NO_PART;
+        return Ok(NO_PART);
     }
-    if io::read_full(STDIN_FILENO, &mut buf[0..size]) < size {
-        return NO_PART;
+    if read_full(from, &mut buf[0..size])? < size {
+        return Ok(NO_PART);
     }
-    part
+    Ok(part)
 }

@@ -1,9 +1,9 @@
 // Framed cases for the programs that run vectors: a kind byte, then parts, each with its length before it; and what such a program prints.
-// No contract can say which bytes are read or written.
+// A reader or a writer whose bytes are not known, as the standard input and output, is promised no more than sizes: the clauses on bytes speak where they are known.
 #![tactic(auto)]
 
 mod input;
 mod output;
 
-pub use input::{Kind, Part, read_kind, read_part};
+pub use input::{Kind, Part, read_full, read_kind, read_part};
 pub use output::{print_bytes, print_line_feed, print_marks, print_number};

@@ -1,6 +1,8 @@
 use frames::{print_bytes, print_number};
 use lines::Digits;
 use moment::{Moment, MomentPart};
+use std::io;
+use std::io::Write;
 
 fn part_number(part: MomentPart) -> u64 {
     match part {
@@ -15,27 +17,27 @@ fn part_number(part: MomentPart) -> u64 {
 }
 
 // 0 for a real moment, 1 for another length, else the number of the first wrong part.
-pub fn print_moment(answer: Moment) {
+pub fn print_moment(to: &mut impl Write, answer: Moment) -> io::Result<()> {
     match answer {
-        Moment::Real => print_number(0),
-        Moment::OtherLength => print_number(1),
-        Moment::Wrong(part) => print_number(part_number(part)),
+        Moment::Real => print_number(to, 0),
+        Moment::OtherLength => print_number(to, 1),
+        Moment::Wrong(part) => print_number(to, part_number(part)),
     }
 }
 
-fn print_truth(b: bool) {
-    print_number(b as u64);
+fn print_truth(to: &mut impl Write, b: bool) -> io::Result<()> {
+    print_number(to, b as u64)
 }
 
-pub fn print_plate(plate: &[u8], nation: &[u8]) {
-    print_truth(plate::plate_on_line(plate, nation));
-    print_bytes(b" ");
-    print_truth(plate::plate_in_book(plate, nation));
+pub fn print_plate(to: &mut impl Write, plate: &[u8], nation: &[u8]) -> io::Result<()> {
+    print_truth(to, plate::plate_on_line(plate, nation))?;
+    print_bytes(to, b" ")?;
+    print_truth(to, plate::plate_in_book(plate, nation))
 }
 
-pub fn print_digits(answer: Digits) {
+pub fn print_digits(to: &mut impl Write, answer: Digits) -> io::Result<()> {
     match answer {
-        Digits::Value(v) => print_number(v),
-        Digits::NotDigits => print_bytes(b"-"),
+        Digits::Value(v) => print_number(to, v),
+        Digits::NotDigits => print_bytes(to, b"-"),
     }
 }

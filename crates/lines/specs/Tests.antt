@@ -1,5 +1,5 @@
 -- The tests of a list, for `omega`: each goal `ltb a b ≡ true`, `not (eqb a b) ≡ false` and so on, from the numbers. Assumes nothing.
-use Rattle.std.specs.Prelude.{◌≡◌, true, false, not, ℕ, eqb, ltb}
+use Rattle.std.specs.Prelude.{◌≡◌, true, false, not, ℕ, eqb}
 use Rattle.std.proofs.Common.{ap, arith, lt-ltb, le-ltb, le-leb, eq-eqb, ne_eqb}
 use Rattle.std.proofs.lemmas.Bool.{lt-leb}
 

@@ -10,7 +10,7 @@ use Rattle.passage.specs.Passage.{pan, exit_moment, detected_plate, detected_nat
 use Rattle.tif.specs.Body.{line_at}
 use Rattle.book.specs.Layout.{width, agreements, body_place}
 use Rattle.cover.specs.Lease.{SameButLeases}
-use Rattle.cover.specs.LeaseLaws.{same_cover}
+use Rattle.cover.proofs.LeaseCoverLaws.{same_cover}
 use Rattle.cover.specs.declared.cover.Cover.{Cover}
 use Rattle.verdicts.specs.LineTests.{line_rows}
 use Rattle.verdicts.specs.Verdict.{word_of}

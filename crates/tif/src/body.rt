@@ -16,6 +16,7 @@ pub enum Amount {
 }
 
 // The amount of a line.
+#[tactic(auto, unfolding(crate::specs::Body::line_amount, crate::specs::Body::line_sound, crate::specs::Every::every, crate::specs::Body::amount_if, lines::specs::Number::read_digits))]
 pub fn line_amount(line: &[u8]) -> Amount
     requires { length line.now ≡ line_width }
     ensures { result ≡ line_amount line.now }

@@ -7,6 +7,7 @@ use crate::columns::{FOOTER_FILLER, TOTAL};
 use lines::{Class, Digits, Gross, all_of, field, read_digits};
 
 // The total of a footer.
+#[tactic(auto, unfolding(crate::specs::Footer::footer_amount, crate::specs::Footer::footer_sound, crate::specs::Every::every, crate::specs::Body::amount_if, lines::specs::Number::read_digits))]
 pub fn footer_amount(footer: &[u8]) -> Amount
     requires { length footer.now ≡ footer_width }
     ensures { result ≡ footer_amount footer.now }

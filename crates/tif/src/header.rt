@@ -31,6 +31,7 @@ const RECEIVER_END: usize = 28;
 const NOK: [u8; 3] = [78, 79, 75];
 
 // Whether the header begins as one, and has sender, receiver and sequence as the file's name has them.
+#[tactic(auto, unfolding(crate::specs::Header::names_file, crate::specs::Every::every))]
 fn names_file(name: &[u8], header: &[u8]) -> bool
     requires { length header.now ≡ header_width }
     ensures { result ≡ names_file name.now header.now }
@@ -51,6 +52,7 @@ fn names_file(name: &[u8], header: &[u8]) -> bool
 }
 
 // Whether the columns of the header that name no file and no count are of the right form.
+#[tactic(auto, unfolding(crate::specs::Header::header_formed, crate::specs::Every::every))]
 fn header_formed(header: &[u8]) -> bool
     requires { length header.now ≡ header_width }
     ensures { result ≡ header_formed header.now }
@@ -71,6 +73,7 @@ fn header_formed(header: &[u8]) -> bool
 }
 
 // The counts that a header states which is of the right form and is that of the named file.
+#[tactic(auto, unfolding(crate::specs::Header::header_of_file, crate::specs::Header::header_sound, crate::specs::Every::every, lines::specs::Number::read_digits))]
 pub fn read_header(name: &[u8], header: &[u8]) -> Header
     requires { length header.now ≡ header_width }
     ensures { result ≡ header_of_file name.now header.now }
@@ -94,6 +97,7 @@ pub fn read_header(name: &[u8], header: &[u8]) -> Header
 }
 
 // Whether the counts are those of a file of so many lines: as many records, and as many transactions or none.
+#[tactic(auto, unfolding(crate::specs::Header::counts_agree))]
 pub fn counts_agree(counts: Counts, lines: Count) -> bool
     ensures { result ≡ counts_agree counts.records.0 counts.transactions.0 lines.0 }
 {

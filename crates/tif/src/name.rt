@@ -36,6 +36,7 @@ pub const TIF_KIND: [u8; 3] = [84, 73, 70];
 pub const VERSION: [u8; 6] = [49, 51, 48, 48, 48, 49];
 
 // Whether the text is an actor: six digits or capitals.
+#[tactic(auto, unfolding(crate::specs::Name::is_actor))]
 pub fn is_actor(s: &[u8]) -> bool
     ensures { result ≡ is_actor s.now }
 {
@@ -46,6 +47,7 @@ pub fn is_actor(s: &[u8]) -> bool
 }
 
 // Whether the text is digits, and not all of them 0.
+#[tactic(auto, unfolding(crate::specs::Name::is_sequence, lines::specs::Number::read_digits))]
 fn is_sequence(s: &[u8]) -> bool
     requires { length s.now ≤ 15 }
     ensures { result ≡ is_sequence s.now }
@@ -57,6 +59,7 @@ fn is_sequence(s: &[u8]) -> bool
 }
 
 // Whether the text is an actor, a real date and a sequence of that day.
+#[tactic(auto, unfolding(crate::specs::Name::is_file_stem, crate::specs::Every::every))]
 pub fn is_file_stem(s: &[u8]) -> bool
     ensures { result ≡ is_file_stem s.now }
 {
@@ -73,6 +76,7 @@ pub fn is_file_stem(s: &[u8]) -> bool
 }
 
 // Whether the text is the name of a TIF (E1).
+#[tactic(auto, unfolding(crate::specs::Name::is_name, crate::specs::Every::every))]
 pub fn is_name(name: &[u8]) -> bool
     ensures { result ≡ is_name name.now }
 {

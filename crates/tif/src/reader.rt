@@ -58,6 +58,7 @@ fn read_line(file: &[u8], at: usize) -> &[u8]
 }
 
 // Line k of a TIF, counted from 0. Every loop over lines takes them here.
+#[tactic(auto, unfolding(lines::specs::Rows::line_of))]
 pub fn tif_line(tif: &[u8], k: usize) -> &[u8]
     requires { line_place tif_layout k + line_width ≤ length tif.now }
     ensures { result.now ≡ line_of tif_layout tif.now k }

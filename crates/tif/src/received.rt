@@ -12,6 +12,7 @@ const NAMES: Layout = Layout {
 };
 
 // Whether the received names are whole (E4).
+#[tactic(auto, unfolding(crate::specs::Received::names_whole))]
 pub fn names_whole(names: &[u8]) -> bool
     ensures { result ≡ names_whole names.now }
 {

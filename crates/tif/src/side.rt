@@ -20,6 +20,7 @@ const CREDIT: [u8; 3] = [67, 82, 69];
 const DEBIT: [u8; 3] = [68, 69, 66];
 
 // The side that columns 74 to 76 name, and neither where they hold another text or are missing.
+#[tactic(auto, unfolding(crate::specs::Side::side_of, lines::specs::FirstOf::first_of))]
 pub fn side_of(tif: &[u8]) -> Side
     ensures { result ≡ side_of tif.now }
 {

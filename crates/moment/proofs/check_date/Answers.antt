@@ -1,7 +1,6 @@
 use native.Mathlib.Omega.{arith}
 use mathlib.Core.Path.{sym, ap, ◌∙◌}
 use mathlib.Core.Bool.{not}
-use borrow.Author.Rules.{rules}
 use Rattle.lines.specs.FirstOf.{picked, here, past, none}
 use Rattle.lines.specs.Number.{all_digits}
 use Rattle.lines.specs.Tests.{tests}

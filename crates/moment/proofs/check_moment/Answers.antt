@@ -2,7 +2,6 @@ use native.Mathlib.Omega.{arith}
 use mathlib.Core.Path.{◌≡◌, sym, ap, ◌∙◌}
 use mathlib.Core.Bool.{true, not}
 use lib.ListN.{drop}
-use borrow.Author.Rules.{rules}
 use Rattle.lines.specs.FirstOf.{Picks, picked, here, past, none}
 use Rattle.lines.specs.Class.{all_of}
 use Rattle.lines.specs.declared.class.Class.TheVariants.{Digit}

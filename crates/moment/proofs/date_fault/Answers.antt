@@ -1,8 +1,6 @@
 use mathlib.Core.Path.{◌≡◌, ap₂, ◌∙◌}
-use mathlib.Core.List.{List}
-use lib.ListN.{length, drop}
-use borrow.Author.Rules.{rules}
-use Rattle.lines.specs.FirstOf.{Row, Picks, picked, here, past, none}
+use lib.ListN.{drop}
+use Rattle.lines.specs.FirstOf.{Picks, picked, here, past, none}
 use Rattle.lines.specs.Tests.{tests}
 use Rattle.moment.specs.Moment.{date_fault, date_faults, year_of, month_of}
 use Rattle.moment.specs.Calendar.{days_in}

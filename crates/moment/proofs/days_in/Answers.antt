@@ -1,5 +1,4 @@
 use native.Mathlib.Omega.{arith}
-use borrow.Author.Rules.{rules}
 use Rattle.moment.specs.Calendar.{days_in}
 use Rattle.moment.specs.MomentLaws.{leap_small}
 use Rattle.moment.proofs.days_in.Goals as goal

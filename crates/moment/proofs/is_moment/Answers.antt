@@ -1,5 +1,4 @@
 use mathlib.Core.Path.{ap, ◌∙◌}
-use borrow.Author.Rules.{rules}
 use Rattle.moment.specs.Moment.{is_moment, is_real}
 use Rattle.moment.proofs.is_moment.Goals as goal
 

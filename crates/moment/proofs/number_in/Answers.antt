@@ -2,7 +2,6 @@ use native.Mathlib.Omega.{arith}
 use Prim.Native.Nat.{◌+◌, ◌-◌}
 use mathlib.Core.Path.{◌∙◌, ap}
 use lib.ListN.{drop, length-take}
-use borrow.Author.Rules.{rules}
 use Rattle.lines.specs.ClassLaws.{all_of_part}
 use Rattle.lines.specs.Number.{all_digits, number_of}
 use Rattle.lines.specs.declared.class.Class.TheVariants.{Digit}

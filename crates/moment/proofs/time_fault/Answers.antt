@@ -1,4 +1,3 @@
-use borrow.Author.Rules.{rules}
 use Rattle.lines.specs.FirstOf.{picked, here, past, none}
 use Rattle.lines.specs.Tests.{tests}
 use Rattle.moment.specs.Moment.{time_fault}

@@ -2,13 +2,11 @@ use native.Mathlib.Omega.{arith}
 use Prim.Native.Nat.{ℕ}
 use mathlib.Core.Path.{◌≡◌, sym, ap, ◌∙◌}
 use mathlib.Core.List.{List}
-use borrow.Author.Rules.{rules}
 use Rattle.lines.specs.Same.{same}
 use Rattle.book.specs.Layout.{width}
 use Rattle.book.specs.FormLaws.{whole_is}
 use Rattle.cover.specs.Cover.{pan_is}
 use Rattle.cover.specs.CoverLaws.{entry_inside, found_there, found_nowhere, found_other}
-use borrow.Author.Tests.{not-true, not-false}
 use Rattle.cover.proofs.cover.agreement_of.Goals as goal
 use Rattle.cover.proofs.cover.agreement_of.Goals.{After-is_same}
 

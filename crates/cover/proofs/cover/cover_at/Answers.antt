@@ -1,6 +1,5 @@
 use mathlib.Core.Path.{ap, ◌∙◌}
 use mathlib.Core.Bool.{Bool, not}
-use borrow.Author.Rules.{rules}
 use Rattle.book.specs.Layout.{width}
 use Rattle.cover.specs.Cover.{asked, covering_agreement, cover_in, cover_of}
 use Rattle.cover.proofs.cover.cover_at.Goals as goal

@@ -1,7 +1,6 @@
 use native.Mathlib.Omega.{arith}
 use Prim.Native.Nat.{ℕ, ◌+◌}
 use mathlib.Core.Path.{◌≡◌, sym, ap, ◌∙◌}
-use borrow.Author.Rules.{rules}
 use lib.Dec.{ltb}
 use Rattle.book.specs.Layout.{width, agreements, periods_at, body_place}
 use Rattle.book.specs.Form.{Body}

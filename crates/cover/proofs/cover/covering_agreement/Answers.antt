@@ -1,5 +1,4 @@
 use mathlib.Core.Path.{sym, ◌∙◌}
-use borrow.Author.Rules.{rules}
 use Rattle.book.specs.Layout.{width}
 use Rattle.cover.specs.CoverLaws.{by_pan, by_plate}
 use Rattle.cover.proofs.cover.covering_agreement.Goals as goal

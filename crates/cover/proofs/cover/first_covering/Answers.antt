@@ -1,10 +1,8 @@
 use native.Mathlib.Omega.{arith}
-use Prim.Native.Nat.{◌-◌, ◌≤◌, ◌<◌}
+use Prim.Native.Nat.{◌≤◌, ◌<◌}
 use mathlib.Core.Path.{◌≡◌, sym, ap, ◌∙◌}
-use mathlib.Core.Bool.{false}
 use lib.ListN.{length}
 use borrow.Author.Rules.{rules}
-use Rattle.lines.specs.Below.{some_below}
 use Rattle.lines.specs.BelowLaws.{some_zero, some_more, first_hit, first_none}
 use Rattle.book.specs.Layout.{width, periods_at, period_end, body_end}
 use Rattle.book.specs.LayoutLaws.{period_ends, period_length}

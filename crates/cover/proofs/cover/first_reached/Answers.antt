@@ -1,8 +1,6 @@
 use native.Mathlib.Omega.{arith}
-use Prim.Native.Nat.{◌-◌}
 use Rattle.book.specs.Layout.{width}
 use Rattle.book.specs.FormLaws.{whole_is}
-use Rattle.cover.specs.Cover.{Between}
 use Rattle.cover.specs.CoverLaws.{halve_start, halve_end}
 use Rattle.cover.proofs.cover.first_reached.Goals as goal
 

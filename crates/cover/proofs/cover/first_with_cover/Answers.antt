@@ -1,13 +1,9 @@
 use native.Mathlib.Omega.{arith}
-use Prim.Native.Nat.{◌-◌, ◌≤◌}
 use mathlib.Core.Path.{◌≡◌, sym, ◌∙◌}
-use mathlib.Core.Bool.{false}
 use borrow.Author.Rules.{rules}
-use Rattle.lines.specs.Below.{some_below}
 use Rattle.lines.specs.BelowLaws.{some_zero, some_more, first_hit, first_none}
 use Rattle.book.specs.Layout.{width, agreements}
 use Rattle.book.specs.FormLaws.{whole_is}
-use Rattle.cover.specs.Cover.{asked, has_cover}
 use Rattle.cover.proofs.cover.first_with_cover.Goals as goal
 
 pub agreements_of-n-requires : goal.agreements_of-n-requires

@@ -1,7 +1,6 @@
 use native.Mathlib.Omega.{arith}
 use Prim.Native.Nat.{◌+◌, ◌-◌, ◌/◌}
 use mathlib.Core.Path.{sym, ◌∙◌}
-use borrow.Author.Rules.{rules}
 use Rattle.book.specs.Layout.{width}
 use Rattle.book.specs.FormLaws.{whole_is}
 use Rattle.cover.specs.CoverLaws.{entry_inside, halve_low, halve_high}

@@ -1,4 +1,3 @@
-use borrow.Author.Rules.{rules}
 use Rattle.book.specs.Layout.{width}
 use Rattle.book.specs.Form.{Body}
 use Rattle.cover.specs.Cover.{has_cover}

@@ -1,7 +1,6 @@
 use native.Mathlib.Omega.{arith}
 use mathlib.Core.Path.{◌≡◌, sym, ap, ◌∙◌}
 use lib.ListN.{length}
-use borrow.Author.Rules.{rules}
 use Rattle.lines.specs.Same.{before}
 use Rattle.book.specs.Layout.{start_part}
 use Rattle.book.specs.LayoutLaws.{cols_length}

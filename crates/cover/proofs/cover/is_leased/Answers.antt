@@ -1,11 +1,9 @@
 use Prim.Native.Nat.{ℕ}
 use mathlib.Core.Path.{◌≡◌, sym, ap, ◌∙◌}
 use mathlib.Core.List.{List}
-use borrow.Author.Rules.{rules}
 use Rattle.lines.specs.Same.{same}
 use Rattle.book.specs.Layout.{plate_part}
 use Rattle.cover.specs.Cover.{leased_to}
-use borrow.Author.Tests.{not-true, not-false}
 use Rattle.cover.proofs.cover.is_leased.Goals as goal
 use Rattle.cover.proofs.cover.is_leased.Goals.{After-is_same}
 

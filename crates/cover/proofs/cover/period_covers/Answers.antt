@@ -1,7 +1,5 @@
 use mathlib.Core.Path.{sym, ◌∙◌}
-use borrow.Author.Rules.{rules}
 use Rattle.cover.specs.Cover.{period_covers}
-use borrow.Author.Tests.{not-true, not-false}
 use Rattle.cover.proofs.cover.period_covers.Goals as goal
 
 pub returns-then-named : goal.returns-then-named

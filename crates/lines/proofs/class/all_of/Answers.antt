@@ -1,12 +1,9 @@
 use native.Mathlib.Omega.{arith}
-use Prim.Native.Nat.{◌-◌, ◌≤◌}
 use mathlib.Core.Path.{◌≡◌, sym, ◌∙◌}
-use mathlib.Core.Bool.{true}
 use lib.ListN.{length}
 use borrow.Author.Rules.{rules}
-use Rattle.lines.specs.Below.{all_below}
 use Rattle.lines.specs.BelowLaws.{all_zero, all_more, all_fails}
-use Rattle.lines.specs.Class.{is_of, byte_is, all_bytes, all_of}
+use Rattle.lines.specs.Class.{byte_is, all_bytes, all_of}
 use borrow.Author.Tests.{not-true, not-false}
 use Rattle.lines.proofs.class.all_of.Goals as goal
 

@@ -2,7 +2,6 @@ use native.Mathlib.Omega.{arith}
 use Prim.Native.Nat.{ℕ, ◌-◌, ◌<◌}
 use mathlib.Core.Path.{◌≡◌, sym, ap, ◌∙◌}
 use lib.ListN.{length, take, drop}
-use borrow.Author.Rules.{rules}
 use Rattle.lines.specs.Class.{place_of, all_of}
 use Rattle.lines.specs.ClassLaws.{place_le}
 use Rattle.lines.specs.declared.class.Class.TheVariants.{Only}

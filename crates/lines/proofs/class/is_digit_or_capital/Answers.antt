@@ -1,4 +1,3 @@
-use borrow.Author.Rules.{rules}
 use Rattle.lines.specs.Class.{is_of}
 use Rattle.lines.proofs.class.is_digit_or_capital.Goals as goal
 

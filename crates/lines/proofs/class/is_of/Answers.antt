@@ -1,4 +1,3 @@
-use borrow.Author.Rules.{rules}
 use Rattle.lines.specs.Class.{is_of}
 use Rattle.lines.proofs.class.is_of.Goals as goal
 

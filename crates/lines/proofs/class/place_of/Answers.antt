@@ -1,12 +1,9 @@
 use native.Mathlib.Omega.{arith}
-use Prim.Native.Nat.{◌-◌, ◌≤◌}
 use mathlib.Core.Path.{◌≡◌, sym, ◌∙◌}
-use mathlib.Core.Bool.{false}
 use lib.ListN.{length}
 use borrow.Author.Rules.{rules}
-use Rattle.lines.specs.Below.{some_below}
 use Rattle.lines.specs.BelowLaws.{some_zero, some_more, first_hit, first_none}
-use Rattle.lines.specs.Class.{is_of, byte_is, place_of}
+use Rattle.lines.specs.Class.{byte_is, place_of}
 use Rattle.lines.proofs.class.place_of.Goals as goal
 
 pub loop-i-init : goal.loop-i-init

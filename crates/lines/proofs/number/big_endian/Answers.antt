@@ -1,12 +1,12 @@
 use native.Mathlib.Omega.{arith}
-use Prim.Native.Nat.{ℕ, suc, ◌+◌, ◌-◌, ◌*◌, ◌≤◌, ◌<◌}
+use Prim.Native.Nat.{ℕ, suc, ◌+◌, ◌*◌, ◌≤◌, ◌<◌}
 use mathlib.Core.Path.{◌≡◌, sym}
 use lib.ListN.{length}
 use borrow.Author.Rules.{rules}
 use Prim.Native.Nat.{◌^◌}
 use native.Mathlib.Nat.{pow-le-pow_right, lt_of_lt_of_le}
 use lib.Dec.{lit<}
-use Rattle.lines.specs.Number.{value_below, big_endian}
+use Rattle.lines.specs.Number.{big_endian}
 use Rattle.lines.specs.NumberLaws.{value_zero, value_suc}
 use native.Mathlib.Nat.{mul-le-mul_right, suc-mul, pow-suc}
 use native.Mathlib.Numerals.{add-one}

@@ -1,5 +1,4 @@
 use mathlib.Core.Path.{◌∙◌}
-use borrow.Author.Rules.{rules}
 use Rattle.lines.specs.NumberLaws.{value_digits}
 use Rattle.lines.proofs.number.number_of.Goals as goal
 

@@ -1,5 +1,4 @@
 use mathlib.Core.Path.{◌≡◌, sym, ◌∙◌}
-use borrow.Author.Rules.{rules}
 use Rattle.lines.specs.Number.{read_digits, value_of}
 use Rattle.lines.specs.NumberLaws.{read_good, read_bad}
 use Rattle.lines.specs.declared.number.Digits.{Digits}

@@ -1,13 +1,8 @@
-use native.Mathlib.Omega.{arith}
-use Prim.Native.Nat.{ℕ, ◌+◌, ◌-◌, ◌≤◌}
-use mathlib.Core.Path.{◌≡◌, refl, sym, ap, ◌∙◌}
-use mathlib.Core.List.{List}
-use lib.ListN.{length, take, set}
-use borrow.Author.Rules.{rules}
-use lib.ListN.{length-set, replicate, length-replicate, get_or-replicate}
-use lib.Seq.{take-length}
+use Prim.Native.Nat.{◌-◌, ◌≤◌}
+use mathlib.Core.Path.{◌≡◌}
+use lib.ListN.{length, take}
+use lib.ListN.{replicate}
 use Rattle.lines.specs.Splice.{splice}
-use Rattle.lines.specs.SpliceLaws.{splice_take_zero, splice_take_more}
 use Rattle.lines.proofs.put.put_run.Given as goal
 
 abbrev pub invariant-loop-i : goal.invariant-loop-i

@@ -1,9 +1,5 @@
 use native.Mathlib.Omega.{arith}
-use Prim.Native.Nat.{◌-◌, ◌≤◌}
 use mathlib.Core.Path.{◌≡◌, sym, ap, ◌∙◌}
-use mathlib.Core.Bool.{true}
-use borrow.Author.Rules.{rules}
-use Rattle.lines.specs.Below.{all_below}
 use Rattle.lines.specs.BelowLaws.{all_zero, all_more, all_fails}
 use Rattle.lines.specs.Rows.{feeds_stand, line_feed_at, one_feed, header_of}
 use Rattle.lines.specs.RowsLaws.{line_ends}

@@ -1,7 +1,6 @@
 use native.Mathlib.Omega.{arith}
 use Prim.Native.Nat.{◌+◌, ◌-◌}
 use mathlib.Core.Path.{◌≡◌}
-use borrow.Author.Rules.{rules}
 use Rattle.lines.specs.Rows.{footer_of, line_place}
 use Rattle.lines.proofs.rows.footer_of.Goals as goal
 

@@ -1,7 +1,6 @@
 use native.Mathlib.Omega.{arith}
 use mathlib.Core.Path.{◌≡◌, sym, ap, ◌∙◌}
 use lib.ListN.{length}
-use borrow.Author.Rules.{rules}
 use Rattle.lines.specs.Rows.{feeds_stand, line_count}
 use Rattle.lines.specs.RowsLaws.{count_is, count_not, framed_not_fits, framed_not_feeds, framed_yes}
 use borrow.Author.Tests.{not-true, not-false}

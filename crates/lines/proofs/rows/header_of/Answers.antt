@@ -1,4 +1,3 @@
-use borrow.Author.Rules.{rules}
 use native.Mathlib.Nat.{sub-zero}
 use Rattle.lines.specs.Rows.{header_of}
 use Rattle.lines.proofs.rows.header_of.Goals as goal

@@ -1,8 +1,6 @@
 use native.Mathlib.Omega.{arith}
-use Prim.Native.Nat.{ℕ, ◌+◌, ◌-◌, ◌*◌, ◌/◌, ◌≤◌}
+use Prim.Native.Nat.{ℕ, ◌-◌, ◌*◌, ◌/◌, ◌≤◌}
 use mathlib.Core.Path.{sym}
-use lib.ListN.{take}
-use borrow.Author.Rules.{rules}
 use native.Mathlib.Nat.{div-mul-le_self}
 use Rattle.lines.specs.RowsLaws.{fits_not_long, fits_not_few, fits_yes, count_yes}
 use Rattle.lines.proofs.rows.line_count.Goals as goal

@@ -1,7 +1,6 @@
 use native.Mathlib.Omega.{arith}
 use Prim.Native.Nat.{◌+◌, ◌-◌}
 use mathlib.Core.Path.{◌≡◌}
-use borrow.Author.Rules.{rules}
 use Rattle.lines.specs.Rows.{line_of, line_place}
 use Rattle.lines.proofs.rows.line_of.Goals as goal
 

@@ -2,7 +2,6 @@ use native.Mathlib.Omega.{arith}
 use Prim.Native.Nat.{◌+◌}
 use mathlib.Core.Path.{sym}
 use lib.ListN.{length}
-use borrow.Author.Rules.{rules}
 use Rattle.lines.specs.Rows.{one_feed}
 use Rattle.lines.specs.Class.{place_of}
 use Rattle.lines.specs.declared.class.Class.TheVariants.{Only}

@@ -1,10 +1,7 @@
 use native.Mathlib.Omega.{arith}
-use Prim.Native.Nat.{◌-◌, ◌≤◌}
 use mathlib.Core.Path.{◌≡◌, sym, ◌∙◌}
-use mathlib.Core.Bool.{false}
 use lib.ListN.{length}
 use borrow.Author.Rules.{rules}
-use Rattle.lines.specs.Below.{some_below}
 use Rattle.lines.specs.BelowLaws.{some_zero, some_more, first_hit, first_none}
 use Rattle.lines.specs.Same.{differ_at, first_difference}
 use Rattle.lines.specs.Tests.{ne_not, eq_not}

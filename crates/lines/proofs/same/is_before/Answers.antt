@@ -1,7 +1,6 @@
 use native.Mathlib.Omega.{arith}
 use mathlib.Core.Path.{sym}
 use lib.ListN.{length}
-use borrow.Author.Rules.{rules}
 use Rattle.lines.specs.Same.{before, first_difference}
 use Rattle.lines.specs.BoolLaws.{and_false_left}
 use borrow.Author.Tests.{le-ltb, lt-ltb}

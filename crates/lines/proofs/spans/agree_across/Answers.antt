@@ -1,11 +1,9 @@
 use native.Mathlib.Omega.{arith}
-use Prim.Native.Nat.{ℕ, ◌-◌, ◌≤◌, ◌<◌}
+use Prim.Native.Nat.{ℕ, ◌<◌}
 use mathlib.Core.Path.{◌≡◌, sym, ap, ◌∙◌}
-use mathlib.Core.Bool.{true}
 use mathlib.Core.List.{List}
 use lib.ListN.{length}
 use borrow.Author.Rules.{rules}
-use Rattle.lines.specs.Below.{all_below}
 use Rattle.lines.specs.BelowLaws.{all_zero, all_more, all_fails}
 use Rattle.lines.specs.Spans.{span_count, span_from, span_to, span_agrees, agree_across, span_within, Within}
 use borrow.Author.Tests.{not-true, not-false}

@@ -1,15 +1,8 @@
-use native.Mathlib.Omega.{arith}
-use Prim.Native.Nat.{ℕ, ◌-◌, ◌≤◌, ◌<◌}
-use mathlib.Core.Path.{◌≡◌, sym, ap, ◌∙◌}
+use Prim.Native.Nat.{◌-◌, ◌≤◌}
+use mathlib.Core.Path.{◌≡◌}
 use mathlib.Core.Bool.{true}
-use mathlib.Core.List.{List}
-use lib.ListN.{length}
-use borrow.Author.Rules.{rules}
 use Rattle.lines.specs.Below.{all_below}
-use Rattle.lines.specs.BelowLaws.{all_zero, all_more, all_fails}
-use Rattle.lines.specs.Spans.{span_count, span_from, span_to, span_agrees, agree_across, span_within, Within}
-use borrow.Author.Tests.{not-true, not-false}
-use Rattle.lines.specs.Same.{same}
+use Rattle.lines.specs.Spans.{span_count, span_agrees}
 use Rattle.lines.proofs.spans.agree_across.Given as goal
 
 abbrev pub invariant-loop-m : goal.invariant-loop-m

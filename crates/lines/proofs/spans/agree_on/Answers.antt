@@ -1,4 +1,3 @@
-use borrow.Author.Rules.{rules}
 use Rattle.lines.specs.Spans.{agree_on}
 use Rattle.lines.proofs.spans.agree_on.Goals as goal
 

@@ -1,6 +1,5 @@
 use Prim.Native.Nat.{ℕ}
 use mathlib.Core.Path.{ap}
-use borrow.Author.Rules.{rules}
 use lib.Dec.{ltb}
 use Rattle.plate.specs.Plate.{is_filled}
 use Rattle.plate.proofs.plates.is_filled.Goals as goal

@@ -1,5 +1,4 @@
 use mathlib.Core.Path.{sym, ◌∙◌}
-use borrow.Author.Rules.{rules}
 use Rattle.plate.specs.PlateLaws.{nation_blank, nation_filled}
 use Rattle.plate.proofs.plates.nation_class.Goals as goal
 

@@ -1,6 +1,5 @@
 use mathlib.Core.Path.{◌≡◌, sym, ◌∙◌}
 use mathlib.Core.Bool.{true}
-use borrow.Author.Rules.{rules}
 use borrow.Author.Tests.{not-true, not-false}
 use Rattle.plate.specs.Plate.{padded_plate}
 use Rattle.plate.specs.PlateLaws.{book_not, book_blank, book_rest}

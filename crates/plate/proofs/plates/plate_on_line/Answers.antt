@@ -1,5 +1,4 @@
 use mathlib.Core.Path.{sym, ap, ◌∙◌}
-use borrow.Author.Rules.{rules}
 use borrow.Author.Tests.{not-true, not-false}
 use Rattle.plate.specs.Plate.{two_of}
 use Rattle.plate.specs.PlateLaws.{line_not, line_rest}

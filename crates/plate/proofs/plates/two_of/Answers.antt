@@ -1,5 +1,4 @@
 use mathlib.Core.Path.{sym, ◌∙◌}
-use borrow.Author.Rules.{rules}
 use Rattle.plate.specs.PlateLaws.{two_not, two_rest}
 use Rattle.plate.proofs.plates.two_of.Goals as goal
 

@@ -1,5 +1,4 @@
 use native.Mathlib.Omega.{arith}
-use borrow.Author.Rules.{rules}
 use Rattle.lines.specs.Below.{table_below}
 use Rattle.lines.specs.Class.{is_digit, is_capital}
 use Rattle.plate.specs.Set.{is_plate_byte, is_small, is_marked_letter}

@@ -17,60 +17,45 @@ pub loop-k-init : goal.loop-k-init
 loop-k-init c = (all_zero _, sym (sum_zero _), omega arith)
 
 pub tif_line-requires : goal.tif_line-requires
-tif_line-requires c =
-    let l = c in
-    let a = l.args in
-    omega (arith, line_ends tif_layout a.n l.loop-k.k (omega arith), l.requires.0)
+tif_line-requires c = omega (arith, line_ends tif_layout c.args.n c.loop-k.k (omega arith), c.requires.0)
 
 pub line_amount-requires : goal.line_amount-requires
 line_amount-requires c =
-    let l = c in
-    let a = l.args in
     ap length c.tif_line.ensures
-    ∙ line_length tif_layout a.tif.now l.loop-k.k (omega (arith, line_ends tif_layout a.n l.loop-k.k (omega arith), l.requires.0))
+    ∙ line_length tif_layout c.args.tif.now c.loop-k.k (omega (arith, line_ends tif_layout c.args.n c.loop-k.k (omega arith), c.requires.0))
 
 -- what the amount of a line that was cut says of the file
-read : (c : After-line_amount) →
-    let l = c in
-    c.line_amount.result ≡ line_amount (line_at l.args.tif.now l.loop-k.k)
+read : (c : After-line_amount) → c.line_amount.result ≡ line_amount (line_at c.args.tif.now c.loop-k.k)
 read c = c.line_amount.ensures ∙ ap line_amount c.tif_line.ensures
 
 told : (c : In-States) →
-    let l = c in
-    let tif = l.args.tif.now in
-    (line_sound_at tif l.loop-k.k ≡ true) × (c.in-States.amount ≡ gross_of (amount_at tif l.loop-k.k))
+    (line_sound_at c.args.tif.now c.loop-k.k ≡ true) × (c.in-States.amount ≡ gross_of (amount_at c.args.tif.now c.loop-k.k))
 unfolding line_amount line_sound_at amount_at
 told c = amount_is _ _ _ (sym (c.line_amount.ensures ∙ ap line_amount c.tif_line.ensures) ∙ c.in-States.is)
 
 pub returns-in_default : goal.returns-in_default
 unfolding body_amount body_sound
 returns-in_default c =
-    let d = c in
-    let l = d in
-    let tif = l.args.tif.now in
-    sym (amount_bad _ _ (all_fails (line_sound_at tif) _ l.loop-k.k (omega arith) (line_not tif l.loop-k.k (sym (read (goal.at.returns-in_default c).After-line_amount) ∙ c.in_default.is))))
+    let unsound = line_not c.args.tif.now c.loop-k.k (sym (read (goal.at.returns-in_default c).After-line_amount) ∙ c.in_default.is) in
+    sym (amount_bad _ _ (all_fails (line_sound_at c.args.tif.now) _ c.loop-k.k (omega arith) unsound))
 
 pub plus-sum-requires : goal.plus-sum-requires
 plus-sum-requires c =
-    let l = c in
-    let tif = l.args.tif.now in
+    let tif = c.args.tif.now in
     let t = told (goal.at.plus-sum-requires c).In-States in
-    omega (arith, ap (λ (g : Gross). g.0) t.1, amount_small tif l.loop-k.k t.0, sum_small tif l.loop-k.k l.loop-k.invariant.0, l.loop-k.invariant.1, l.requires.1)
+    omega (arith, ap (λ (g : Gross). g.0) t.1, amount_small tif c.loop-k.k t.0, sum_small tif c.loop-k.k c.loop-k.invariant.0, c.loop-k.invariant.1, c.requires.1)
 
 pub loop-k-preserved : goal.loop-k-preserved
 loop-k-preserved c =
-    let l = c in
-    let tif = l.args.tif.now in
+    let tif = c.args.tif.now in
     let t = told (goal.at.loop-k-preserved c).In-States in (
-      all_more (line_sound_at tif) l.loop-k.k l.loop-k.invariant.0 t.0,
-      omega (arith, c.plus-sum.ensures, ap (λ (g : Gross). g.0) t.1, l.loop-k.invariant.1, sum_suc (amount_at tif) l.loop-k.k),
+      all_more (line_sound_at tif) c.loop-k.k c.loop-k.invariant.0 t.0,
+      omega (arith, c.plus-sum.ensures, ap (λ (g : Gross). g.0) t.1, c.loop-k.invariant.1, sum_suc (amount_at tif) c.loop-k.k),
       omega arith,
     )
 
 pub returns : goal.returns
 unfolding body_amount body_sound body_total
 returns c =
-    let l = c in
-    let a = l.args in
-    let e : l.loop-k.k ≡ a.n = omega arith in
-    ap (λ (v : ℕ). Amount.States (gross_of v)) (rw e at l.loop-k.invariant.1) ∙ sym (amount_good _ _ (rw e at l.loop-k.invariant.0))
+    let e : c.loop-k.k ≡ c.args.n = omega arith in
+    ap (λ (v : ℕ). Amount.States (gross_of v)) (rw e at c.loop-k.invariant.1) ∙ sym (amount_good _ _ (rw e at c.loop-k.invariant.0))

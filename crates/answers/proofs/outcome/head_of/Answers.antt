@@ -1,0 +1,5 @@
+use borrow.Author.Rules.{rules}
+use Rattle.answers.proofs.outcome.head_of.Goals as goal
+
+pub returns : goal.returns
+returns c = rw c.answer_code.ensures

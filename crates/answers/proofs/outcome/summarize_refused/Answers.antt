@@ -1,0 +1,5 @@
+use borrow.Author.Rules.{rules}
+use Rattle.answers.proofs.outcome.summarize_refused.Goals as goal
+
+pub returns : goal.returns
+returns c = rw c.side_of.ensures

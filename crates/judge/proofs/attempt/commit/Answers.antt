@@ -1,0 +1,23 @@
+use Rattle.std.specs.Prelude.{ℕ, List}
+use mathlib.Core.Path.{ap₂, ◌∙◌}
+use borrow.Author.Rules.{rules}
+use Rattle.lines.specs.SpliceLaws.{splice_whole}
+use Rattle.answers.specs.Listing.{tic_of}
+use Rattle.lines.specs.Splice.{splice}
+use Rattle.tic_text.specs.Text.{tic_text}
+use Rattle.tic_text.specs.declared.values.TicHead.{TicHead}
+use Rattle.tic_text.specs.declared.values.TicSums.{TicSums}
+use Rattle.judge.proofs.attempt.commit.Goals as goal
+
+pub put_tic-requires : goal.put_tic-requires
+put_tic-requires c =
+    rw c.head_of.ensures c.requires.text
+
+pub returns : goal.returns
+returns c =
+    let a = c.args in
+    let text : TicHead → TicSums → List ℕ = λ h t. splice a.out.now 0 (tic_text (tic_of a.name.now a.received.now a.card.now a.tif.now a.words.now h t)) in
+    record {
+      marks_then = c.put_bytes.ensures.spliced ∙ splice_whole a.marks.now a.mine.now c.requires.same;
+      out_then = c.put_tic.ensures.spliced ∙ ap₂ text c.head_of.ensures c.sums_told.ensures;
+    }

@@ -1,0 +1,24 @@
+use native.Mathlib.Omega.{arith}
+use Prim.Native.Nat.{ℕ, ◌-◌, ◌≤◌}
+use mathlib.Core.Path.{◌≡◌, refl, sym, ap, ◌∙◌}
+use mathlib.Core.List.{List, ◌++◌}
+use lib.ListN.{length, drop}
+use borrow.Author.Rules.{rules}
+use mathlib.Core.List.{append-nil}
+use lib.Seq.{drop-length}
+use Rattle.lines.specs.Below.{table_below}
+use Rattle.lines.specs.BelowLaws.{table_zero}
+use Rattle.judging.specs.Judging.{judging, marks_before, word_at, words_of}
+use Rattle.judging.specs.StepLaws.{turn, before_zero}
+use Rattle.judging.proofs.file.judge_each.Given as goal
+
+abbrev pub invariant-loop-k : goal.invariant-loop-k
+invariant-loop-k l =
+    (l.marks ≡ marks_before (judging l.side l.sender l.book l.debits l.tif l.tst) l.initial.marks l.k)
+    × (l.words ≡ table_below l.k (word_at (judging l.side l.sender l.book l.debits l.tif l.tst) l.initial.marks) ++ drop l.k l.initial.words)
+    × (l.k ≤ length l.initial.words)
+    × (length l.words ≡ length l.initial.words)
+    × (length l.marks ≡ length l.initial.marks)
+
+abbrev pub decreases-loop-k : goal.decreases-loop-k
+decreases-loop-k l = length l.initial.words - l.k

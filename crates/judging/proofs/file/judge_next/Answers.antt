@@ -1,0 +1,15 @@
+use mathlib.Core.Path.{ap, ◌∙◌}
+use borrow.Author.Rules.{rules}
+use Rattle.verdicts.specs.Verdict.{word_of}
+use Rattle.judging.specs.WordLaws.{verdict_fits}
+use Rattle.judging.proofs.file.judge_next.Goals as goal
+
+pub word_of-requires : goal.word_of-requires
+word_of-requires c =
+    let p = c.requires.0 in
+    rw c.judge_line-v.ensures.verdict (verdict_fits _ _ _ p.booked p.few)
+
+pub returns : goal.returns
+returns c =
+    let w = c.word_of.ensures ∙ ap word_of c.judge_line-v.ensures.verdict in
+    record { marked = c.judge_line-v.ensures.marked; worded = cc }
