@@ -1,4 +1,3 @@
-use borrow.Author.Rules.{rules}
 use Rattle.exports.specs.CallsLaws.{call_told}
 use Rattle.exports.proofs.judging.quindaf_judge_with.Goals as goal
 

@@ -1,5 +1,4 @@
 use mathlib.Core.Path.{refl}
-use borrow.Author.Rules.{rules}
 use Rattle.exports.specs.CallsLaws.{answer_told}
 use Rattle.exports.proofs.judging.tell_answer.Goals as goal
 

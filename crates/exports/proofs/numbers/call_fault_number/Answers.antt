@@ -1,5 +1,4 @@
 use native.Mathlib.Omega.{arith}
-use borrow.Author.Rules.{rules}
 use Rattle.exports.specs.CallsLaws.{call_fault_small}
 use Rattle.exports.proofs.numbers.call_fault_number.Goals as goal
 

@@ -1,5 +1,4 @@
 use native.Mathlib.Omega.{arith}
-use borrow.Author.Rules.{rules}
 use Rattle.exports.specs.TicsLaws.{fault_small}
 use Rattle.exports.proofs.numbers.tic_fault_number.Goals as goal
 

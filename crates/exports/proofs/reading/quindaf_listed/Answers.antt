@@ -1,5 +1,4 @@
 use mathlib.Core.Path.{refl, sym, ◌∙◌}
-use borrow.Author.Rules.{rules}
 use Rattle.exports.specs.TicsLaws.{listed_told}
 use Rattle.exports.proofs.reading.quindaf_listed.Goals as goal
 

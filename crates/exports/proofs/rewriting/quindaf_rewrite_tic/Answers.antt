@@ -1,5 +1,4 @@
-use mathlib.Core.Path.{refl, sym, ◌∙◌}
-use borrow.Author.Rules.{rules}
+use mathlib.Core.Path.{refl}
 use Rattle.exports.specs.TicsLaws.{rewriting_told}
 use Rattle.exports.proofs.rewriting.quindaf_rewrite_tic.Goals as goal
 

@@ -1,5 +1,4 @@
 use mathlib.Core.Path.{◌∙◌}
-use borrow.Author.Rules.{rules}
 use Rattle.job.specs.PrintedLaws.{answer_on_copy}
 use Rattle.job.proofs.call.judge_copied.Goals as goal
 

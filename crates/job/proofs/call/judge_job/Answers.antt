@@ -1,6 +1,5 @@
 use native.Mathlib.Omega.{arith}
 use mathlib.Core.Path.{◌∙◌}
-use borrow.Author.Rules.{rules}
 use Rattle.job_form.specs.FormLaws.{body_length}
 use Rattle.job.proofs.call.judge_job.Goals as goal
 

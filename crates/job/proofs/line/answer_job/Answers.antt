@@ -1,6 +1,5 @@
 use native.Mathlib.Omega.{arith}
 use mathlib.Core.List.{[], ◌∷◌}
-use borrow.Author.Rules.{rules}
 use Rattle.lines.specs.SpliceLaws.{put_more}
 use Rattle.job.specs.Printed.{text_of, printed_of}
 use Rattle.job.specs.PrintedLaws.{text_length}
