@@ -4,7 +4,7 @@ use Rattle.tif.specs.declared.side.Side.{Side}
 use Rattle.tif.specs.declared.side.Side.TheVariants.{Credit, Debit, Neither}
 use Rattle.tic_parts.specs.Reading.{fault_number}
 use Rattle.tic_text.specs.declared.values.TicReading.{TicReading}
-use Rattle.tic_text.specs.declared.values.TicReading.TheVariants.{Unreadable, Values}
+use Rattle.tic_text.specs.declared.values.TicReading.TheVariants.{Values}
 use Rattle.tic.specs.declared.rewriting.Rewritten.{Rewritten}
 use Rattle.tic.specs.declared.rewriting.Rewritten.TheVariants.{TooShort, Written}
 use Rattle.answers.specs.Answer as call

@@ -4,7 +4,6 @@ use Rattle.std.proofs.Common.{not-suc-le-zero, arith, length-append, lt-ltb, le-
 use Rattle.lines.specs.Number.{digits_of}
 use Rattle.lines.specs.NumberLaws.{digits_length}
 use Rattle.tif.specs.Side.{side_text}
-use Rattle.tif.specs.declared.side.Side.{Side}
 use Rattle.tic_text.specs.TextLaws.{side_length}
 use Rattle.answers.specs.Answer.{answer_code, fault_number}
 use Rattle.answers.specs.declared.answer.Answer.{Answer}

@@ -1,5 +1,5 @@
 -- The call as a whole: what is lent, the answer, and what is lent afterwards. Assumes nothing.
-use Rattle.std.specs.Prelude.{◌≡◌, ℕ, ◌+◌, ◌<◌, Bool, true, false, cond, List, [], ◌++◌, length, drop}
+use Rattle.std.specs.Prelude.{◌≡◌, ℕ, ◌<◌, Bool, true, false, cond, List, [], ◌++◌, length, drop}
 use Rattle.lines.specs.Splice.{splice}
 use Rattle.tif.specs.Acceptance.{acceptance_of}
 use Rattle.tif.specs.Name.{name_sender}
@@ -16,7 +16,6 @@ use Rattle.answers.specs.declared.answer.Answer.{Answer}
 use Rattle.answers.specs.declared.answer.Answer.TheVariants.{Refused, Answered}
 use Rattle.answers.specs.declared.answer.CallCheck.{CallCheck}
 use Rattle.answers.specs.declared.answer.CallFault.TheVariants.{Room}
-use Rattle.answers.specs.declared.answer.FileAnswer.TheVariants.{AlreadyReceived, CountsDiffer, TotalDiffers, OutOfForm}
 use Rattle.answers.specs.declared.answer.Summary.{Summary}
 
 -- everything lent; of the record table only its length decides

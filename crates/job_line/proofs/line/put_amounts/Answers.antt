@@ -1,4 +1,3 @@
-use borrow.Author.Rules.{rules}
 use Rattle.job_line.specs.Line.{amounts_text}
 use Rattle.job_line.proofs.line.put_amounts.Goals as goal
 

@@ -1,4 +1,3 @@
-use borrow.Author.Rules.{rules}
 use Rattle.job_line.specs.Line.{counts_text}
 use Rattle.job_line.proofs.line.put_counts.Goals as goal
 

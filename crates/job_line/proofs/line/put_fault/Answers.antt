@@ -1,6 +1,5 @@
 use native.Mathlib.Omega.{arith}
 use mathlib.Core.List.{[], ◌∷◌}
-use borrow.Author.Rules.{rules}
 use Rattle.lines.specs.SpliceLaws.{put_more}
 use Rattle.answers.specs.Answer.{fault_number}
 use Rattle.job_line.specs.Line.{decimal, fault_text}

@@ -1,6 +1,5 @@
 use native.Mathlib.Omega.{arith}
 use mathlib.Core.List.{[], ◌∷◌, ◌++◌}
-use borrow.Author.Rules.{rules}
 use lib.ListN.{length-append}
 use Rattle.lines.specs.Number.{digits_of}
 use Rattle.lines.specs.NumberLaws.{digits_length}

@@ -1,6 +1,5 @@
 use native.Mathlib.Omega.{arith}
 use mathlib.Core.List.{◌++◌}
-use borrow.Author.Rules.{rules}
 use lib.ListN.{length-append}
 use Rattle.lines.specs.SpliceLaws.{put_more}
 use Rattle.job_line.specs.Line.{head_text, counts_text, amounts_text, summary_text}

@@ -1,8 +1,4 @@
 use native.Mathlib.Omega.{arith}
-use Prim.Native.Nat.{◌+◌, ◌-◌, ◌≤◌}
-use mathlib.Core.Path.{◌≡◌}
-use borrow.Author.Rules.{rules}
-use Rattle.job_line.specs.Line.{digit_count}
 use Rattle.job_line.specs.LineLaws.{count_more, count_last, count_one}
 use Rattle.job_line.proofs.number.digit_count.Goals as goal
 

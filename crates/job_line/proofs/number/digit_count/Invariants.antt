@@ -1,9 +1,6 @@
-use native.Mathlib.Omega.{arith}
 use Prim.Native.Nat.{◌+◌, ◌-◌, ◌≤◌}
 use mathlib.Core.Path.{◌≡◌}
-use borrow.Author.Rules.{rules}
 use Rattle.job_line.specs.Line.{digit_count}
-use Rattle.job_line.specs.LineLaws.{count_more, count_last, count_one}
 use Rattle.job_line.proofs.number.digit_count.Given as goal
 
 abbrev pub invariant-loop-left : goal.invariant-loop-left

@@ -1,6 +1,5 @@
 use native.Mathlib.Omega.{arith}
 use mathlib.Core.List.{[], ◌∷◌}
-use borrow.Author.Rules.{rules}
 use Rattle.lines.specs.SpliceLaws.{put_more}
 use Rattle.job_line.specs.Line.{decimal, after_blank}
 use Rattle.job_line.proofs.number.put_after_blank.Goals as goal

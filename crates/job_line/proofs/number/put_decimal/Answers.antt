@@ -1,5 +1,4 @@
 use native.Mathlib.Omega.{arith}
-use borrow.Author.Rules.{rules}
 use Rattle.job_line.specs.Line.{decimal}
 use Rattle.job_line.specs.LineLaws.{count_le}
 use Rattle.job_line.proofs.number.put_decimal.Goals as goal

@@ -1,6 +1,5 @@
 use Rattle.std.specs.Prelude.{ℕ, List}
 use mathlib.Core.Path.{ap₂, ◌∙◌}
-use borrow.Author.Rules.{rules}
 use Rattle.lines.specs.SpliceLaws.{splice_whole}
 use Rattle.answers.specs.Listing.{tic_of}
 use Rattle.lines.specs.Splice.{splice}

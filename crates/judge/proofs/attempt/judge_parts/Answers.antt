@@ -1,5 +1,4 @@
 use mathlib.Core.Path.{◌∙◌}
-use borrow.Author.Rules.{rules}
 use native.Mathlib.Nat.{sub-zero}
 use lib.Seq.{length-take-le}
 use Rattle.judge.specs.CoreLaws.{parts_filled}

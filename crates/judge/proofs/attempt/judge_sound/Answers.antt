@@ -1,6 +1,5 @@
-use Rattle.std.specs.Prelude.{◌≡◌, [], ◌∷◌}
+use Rattle.std.specs.Prelude.{◌≡◌}
 use mathlib.Core.Path.{refl, sym, ◌∙◌}
-use borrow.Author.Rules.{rules}
 use Rattle.tif.specs.declared.acceptance.Acceptance.{Acceptance}
 use Rattle.tif.specs.declared.acceptance.Whole.{Whole}
 use Rattle.answers.specs.Told.{total_told, file_answer}
@@ -29,9 +28,11 @@ judge_file-requires c =
 
 pub refuse_file-requires : goal.refuse_file-requires
 refuse_file-requires c =
-    widths (let a = c.args in call_of a.name.now a.received.now a.card.now a.names.now a.book.now a.debits.now a.marks.now a.tif.now a.tst.now a.room a.out.now) c.requires.sound
+    let a = c.args in
+    let k = call_of a.name.now a.received.now a.card.now a.names.now a.book.now a.debits.now a.marks.now a.tif.now a.tst.now a.room a.out.now in
+    widths k c.requires.sound
 
 pub returns : goal.returns
 returns c =
-    let none = refused_whole (let a = c.args in call_of a.name.now a.received.now a.card.now a.names.now a.book.now a.debits.now a.marks.now a.tif.now a.tst.now a.room a.out.now) _ c.acceptance_of-acceptance.ensures c.in_default.not-Judged _ c.file_answer-answer.ensures in
-    file_refused (let a = c.args in call_of a.name.now a.received.now a.card.now a.names.now a.book.now a.debits.now a.marks.now a.tif.now a.tst.now a.room a.out.now) c.requires.sound _ none _ _ _ c.refuse_file.ensures
+    let none = refused_whole _ _ c.acceptance_of-acceptance.ensures c.in_default.not-Judged _ c.file_answer-answer.ensures in
+    file_refused _ c.requires.sound _ none _ _ _ c.refuse_file.ensures

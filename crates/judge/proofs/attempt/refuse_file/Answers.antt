@@ -1,5 +1,4 @@
 use mathlib.Core.Path.{sym, ◌∙◌}
-use borrow.Author.Rules.{rules}
 use Rattle.judge.specs.WholeLaws.{file_small, file_room, file_written}
 use Rattle.judge.proofs.attempt.refuse_file.Goals as goal
 

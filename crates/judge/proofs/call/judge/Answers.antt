@@ -1,6 +1,4 @@
-use Rattle.judge.specs.Call.{Call, call_of}
 use Rattle.judge.specs.CallLaws.{room_to_fill, judged_from_words}
-use Rattle.std.proofs.Common.{length}
 use Rattle.judge.proofs.call.judge.Goals as goal
 
 pub fill-requires : goal.fill-requires

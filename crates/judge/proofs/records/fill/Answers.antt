@@ -1,5 +1,4 @@
-use Rattle.std.proofs.Common.{◌≡◌, ◌∙◌, ℕ, ap, sym, arith, slice_set}
-use Rattle.verdicts.specs.declared.record.Record.{Record}
+use Rattle.std.proofs.Common.{◌∙◌, ap, sym, arith}
 use Rattle.judge.proofs.RecordsSoFar.{one_more, so_far, so_far_none, so_far_more}
 use Rattle.judge.proofs.records.fill.Goals as goal
 

@@ -1,6 +1,5 @@
 use Rattle.std.specs.Prelude.{ℕ, ◌+◌, List}
 use mathlib.Core.Path.{ap, ◌∙◌}
-use borrow.Author.Rules.{rules}
 use Rattle.lines.specs.RowsLaws.{line_length}
 use Rattle.tif.specs.Body.{line_at}
 use Rattle.tif.specs.Columns.{tif_layout}

@@ -2,14 +2,13 @@ use native.Mathlib.Omega.{arith}
 use Rattle.std.specs.Prelude.{◌-◌, ◌≤◌, length}
 use lib.ListN.{length-take}
 use borrow.Author.Rules.{rules}
-use Rattle.judge.specs.Call.{Call, call_of}
 use Rattle.judge.specs.CallLaws.{words_tried_lem, words_judged_lem}
 use Rattle.judge.proofs.words.judge_words.Goals as goal
 
 pub slice_bounds-keep_words-end : goal.slice_bounds-keep_words-end
 slice_bounds-keep_words-end c =
     let a = c.args in
-    omega (arith, words_tried_lem (call_of a.name.now a.received.now a.card.now a.names.now a.book.now a.debits.now a.marks.now a.tif.now a.tst.now a.room a.out.now) _ _ _ _ _ c.lines_to_record-n.result c.try_call-answer.ensures c.lines_to_record-n.ensures)
+    omega (arith, words_tried_lem _ _ _ _ _ _ c.lines_to_record-n.result c.try_call-answer.ensures c.lines_to_record-n.ensures)
 
 -- what is kept is no more than what is lent
 pub keep_words-requires : goal.keep_words-requires
@@ -20,4 +19,4 @@ keep_words-requires c =
 
 pub returns : goal.returns
 returns c =
-    words_judged_lem (let a = c.args in call_of a.name.now a.received.now a.card.now a.names.now a.book.now a.debits.now a.marks.now a.tif.now a.tst.now a.room a.out.now) _ _ _ _ _ c.lines_to_record-n.result c.try_call-answer.ensures c.lines_to_record-n.ensures _ _ (search rules) c.keep_words.ensures
+    words_judged_lem _ _ _ _ _ _ c.lines_to_record-n.result c.try_call-answer.ensures c.lines_to_record-n.ensures _ _ (search rules) c.keep_words.ensures

@@ -1,4 +1,5 @@
 -- What each verdict carries fits its word, so that the word gives the verdict back; and L9 is in use only where a station table is lent. Assumes nothing.
+-- These laws stand here and not in specs/, since they rest on `fails_verdict` and `passes_verdict`, which wrong tests of a line make false: a must-fail edit counts only where nothing in specs/ rests on what it makes false.
 use Rattle.std.specs.Prelude.{◌≡◌, refl, Bool, true, false, ◌&&◌, cond, List, ℕ, ◌+◌, ◌≤◌, ◌<◌, length, ltb}
 use Rattle.std.proofs.Common.{sym, ap, ◌∙◌, arith, ltb-true}
 use Rattle.lines.specs.Rows.{most_lines}
