@@ -16,7 +16,8 @@ use Rattle.passage.specs.Passage.{credit_spans}
 use Rattle.debits.specs.Form.{debit_line}
 use Rattle.debits.specs.Taking.{agrees, unmarked, free_for}
 use Rattle.debits.specs.Credits.{marks_after, place_at, credit_accepted}
-use Rattle.debits.specs.CreditsLaws.{unmarked_set, accepted_is, skipped_is, after_length}
+use Rattle.debits.specs.CreditsLaws.{unmarked_set, skipped_is, after_length}
+use Rattle.debits.proofs.AcceptedLaws.{accepted_is}
 use Rattle.debits.specs.Counting.{count_below, except, count_suc, count_same, count_except, one_none, one_same}
 
 -- ---- agreement is that the texts of the spans are equal, so what agrees with one of two that agree agrees with the other

@@ -13,7 +13,8 @@ use Rattle.lines.specs.BelowLaws.{below_suc}
 use Rattle.lines.specs.BoolLaws.{and_false_left, and_false_right}
 use Rattle.debits.specs.Taking.{unmarked}
 use Rattle.debits.specs.Credits.{marks_after, place_at, credit_accepted}
-use Rattle.debits.specs.CreditsLaws.{unmarked_set, accepted_is, skipped_is, after_length}
+use Rattle.debits.specs.CreditsLaws.{unmarked_set, skipped_is, after_length}
+use Rattle.debits.proofs.AcceptedLaws.{accepted_is}
 use Rattle.debits.specs.Sequence.{Open, Step, judged, added, open_after, place_if_taken, places_of, places_taken, NoneTwice}
 
 -- what holds of the places taken so far: none twice, and each is marked now

@@ -3,8 +3,8 @@ use Rattle.std.specs.Prelude.{◌≡◌, Bool, true, List, ℕ, replicate}
 use Rattle.debits.specs.Credits.{credit_accepted, credit_refused}
 use Rattle.debits.specs.Assignment.{Assigned, Exactly}
 use Rattle.debits.specs.Sequence.{Step, places_taken, NoneTwice}
-use Rattle.debits.specs.SequenceLaws.{none_taken_twice}
-use Rattle.debits.specs.Demand3Laws.{refused_unassigned, accepted_assigned, accepted_or_refused}
+use Rattle.debits.proofs.SequenceLaws.{none_taken_twice}
+use Rattle.debits.proofs.Demand3Laws.{refused_unassigned, accepted_assigned, accepted_or_refused}
 
 module _ (debits : List ℕ) (credits : ℕ → List ℕ) (reaches : ℕ → Bool) (marks : List ℕ) (k : ℕ) where
   -- a credit that reaches the test is refused exactly if no assignment gives it, and each credit accepted before it in that file, a separate agreeing

@@ -9,9 +9,9 @@ use borrow.Author.Tests.{eqb-true, eq-eqb, ne_eqb, lt-ltb}
 use Rattle.lines.specs.BoolLaws.{and_true, and_left, and_right, or_true_left}
 use Rattle.debits.specs.Taking.{agrees, unmarked, free_for, took_debit}
 use Rattle.debits.specs.Credits.{marks_after, taken_at, place_at, credit_accepted, credit_refused}
-use Rattle.debits.specs.CreditsLaws.{accepted_is, refused_is, unmarked_earlier, places_apart}
+use Rattle.debits.proofs.AcceptedLaws.{accepted_is, refused_is, unmarked_earlier, places_apart}
 use Rattle.debits.specs.Counting.{count_suc, count_same, count_none, one_some, pigeonhole}
-use Rattle.debits.specs.Balance.{same_kind, agrees_kind, accepted_of_kind, balance}
+use Rattle.debits.proofs.Balance.{same_kind, agrees_kind, accepted_of_kind, balance}
 use Rattle.debits.specs.Assignment.{counts, Assignment, Assigned}
 
 module _ (debits : List ℕ) (credits : ℕ → List ℕ) (reaches : ℕ → Bool) (marks : List ℕ) (k : ℕ) where
