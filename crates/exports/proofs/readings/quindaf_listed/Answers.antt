@@ -1,6 +1,6 @@
 use mathlib.Core.Path.{refl, sym, ◌∙◌}
 use Rattle.exports.specs.TicsLaws.{listed_told}
-use Rattle.exports.proofs.reading.quindaf_listed.Goals as goal
+use Rattle.exports.proofs.readings.quindaf_listed.Goals as goal
 
 pub returns-in-At : goal.returns-in-At
 returns-in-At c = listed_told _ _ _ _ _ _ (sym c.listed_line.ensures ∙ c.in-At.is) refl refl

@@ -1,6 +1,6 @@
 use mathlib.Core.Path.{refl, sym, ◌∙◌}
 use Rattle.exports.specs.TicsLaws.{reading_told}
-use Rattle.exports.proofs.reading.quindaf_read_tic.Goals as goal
+use Rattle.exports.proofs.readings.quindaf_read_tic.Goals as goal
 
 pub returns-in-Unreadable : goal.returns-in-Unreadable
 returns-in-Unreadable c = reading_told _ _ _ _ _ (sym c.read_tic.ensures ∙ c.in-Unreadable.is) c.tic_fault_number.ensures refl
