@@ -5,7 +5,7 @@
  * between calls, call nothing outside the library and always return, so any
  * number of threads may call them at the same time on memory of their own.
  *
- * Link target/staticlib/libexports.a (`rt staticlib exports` writes it), on
+ * Link target/staticlib/libexports.a (`tools/build.sh` writes it), on
  * x86-64 Linux.
  *
  * What every caller owes:

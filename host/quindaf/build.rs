@@ -15,7 +15,7 @@ fn main() {
     let Some(found) = found else {
         fail(&format!(
             "there is no proved library at {}\n\
-             Run `rt staticlib exports` in the root of the repository first,\n\
+             Run `tools/build.sh` in the root of the repository first,\n\
              or name the file by {VARIABLE}.",
             library.display()
         ));

@@ -8,55 +8,57 @@ ghost use Rattle.book.specs.Form.{book_sound};
 use book::{BookForm, check_book};
 use cover::{Cover, cover_at};
 use frames::{Kind, print_bytes, print_line_feed, print_number, read_kind, read_part};
+use std::io;
+use std::io::{Read, Write};
 
 // One byte more than a book may have.
 const ROOM: usize = 1048577;
 
-fn print_place(agreement: usize, period: usize) {
-    print_number(agreement as u64);
-    print_bytes(b" ");
-    print_number(period as u64);
-    print_line_feed();
+fn print_place(to: &mut impl Write, agreement: usize, period: usize) -> io::Result<()> {
+    print_number(to, agreement as u64)?;
+    print_bytes(to, b" ")?;
+    print_number(to, period as u64)?;
+    print_line_feed(to)
 }
 
-fn print_cover(cover: Cover) {
+fn print_cover(to: &mut impl Write, cover: Cover) -> io::Result<()> {
     match cover {
-        Cover::At(place) => print_place(place.agreement, place.period),
-        Cover::Nothing => print_place(0, 0),
+        Cover::At(place) => print_place(to, place.agreement, place.period),
+        Cover::Nothing => print_place(to, 0, 0),
     }
 }
 
 // Reads a part that has to fill buf.
-fn read_field(buf: &mut [u8]) -> bool {
-    let part = read_part(buf);
+fn read_field(from: &mut impl Read, buf: &mut [u8]) -> io::Result<bool> {
+    let part = read_part(from, buf)?;
     if !part.whole {
-        return false;
+        return Ok(false);
     }
-    part.size == buf.len()
+    Ok(part.size == buf.len())
 }
 
 // A question: PAN, moment, plate and nation, asked of a sound book.
-fn run_question(book: &[u8]) -> bool
+fn run_question(from: &mut impl Read, to: &mut impl Write, book: &[u8]) -> io::Result<bool>
     requires { book_sound width book.now ≡ true }
 {
     let mut pan = [0u8; 19];
     let mut moment = [0u8; 14];
     let mut plate = [0u8; 10];
     let mut nation = [0u8; 2];
-    if !read_field(&mut pan) {
-        return false;
+    if !read_field(from, &mut pan)? {
+        return Ok(false);
     }
-    if !read_field(&mut moment) {
-        return false;
+    if !read_field(from, &mut moment)? {
+        return Ok(false);
     }
-    if !read_field(&mut plate) {
-        return false;
+    if !read_field(from, &mut plate)? {
+        return Ok(false);
     }
-    if !read_field(&mut nation) {
-        return false;
+    if !read_field(from, &mut nation)? {
+        return Ok(false);
     }
-    print_cover(cover_at(book, &pan, &moment, &plate, &nation));
-    true
+    print_cover(to, cover_at(book, &pan, &moment, &plate, &nation))?;
+    Ok(true)
 }
 
 fn is_question(kind: Kind) -> bool {
@@ -67,38 +69,39 @@ fn is_question(kind: Kind) -> bool {
 }
 
 // The questions that follow a sound book, and the kind of the case after them.
-fn run_questions(book: &[u8]) -> Kind
+fn run_questions(from: &mut impl Read, to: &mut impl Write, book: &[u8]) -> io::Result<Kind>
     requires { book_sound width book.now ≡ true }
 {
-    let mut turns = u64::MAX;
-    let mut kind = read_kind();
-    while turns > 0 && is_question(kind) {
-        if !run_question(book) {
-            return Kind::End;
+    let mut kind = read_kind(from)?;
+    for _ in 0..u64::MAX {
+        if !is_question(kind) {
+            break;
         }
-        kind = read_kind();
-        turns -= 1;
+        if !run_question(from, to, book)? {
+            return Ok(Kind::End);
+        }
+        kind = read_kind(from)?;
     }
-    kind
+    Ok(kind)
 }
 
 // A book: 1 where it is sound, and then its questions, and 0 where it is not; the kind of the case after it.
-fn run_book(book: &mut [u8]) -> Kind {
-    let part = read_part(book);
+fn run_book(from: &mut impl Read, to: &mut impl Write, book: &mut [u8]) -> io::Result<Kind> {
+    let part = read_part(from, book)?;
     if !part.whole {
-        return Kind::End;
+        return Ok(Kind::End);
     }
     let size = part.size;
     match check_book(&book[0..size]) {
         BookForm::OutOfForm => {
-            print_number(0);
-            print_line_feed();
-            read_kind()
+            print_number(to, 0)?;
+            print_line_feed(to)?;
+            read_kind(from)
         }
         BookForm::Sound => {
-            print_number(1);
-            print_line_feed();
-            run_questions(&book[0..size])
+            print_number(to, 1)?;
+            print_line_feed(to)?;
+            run_questions(from, to, &book[0..size])
         }
     }
 }
@@ -110,17 +113,19 @@ fn is_book(kind: Kind) -> bool {
     }
 }
 
-// A proved loop has to end, and nothing says that an input does: the turns are counted down from a number that no run uses up.
-fn run_cases(book: &mut [u8; ROOM]) {
-    let mut turns = u64::MAX;
-    let mut kind = read_kind();
-    while turns > 0 && is_book(kind) {
-        kind = run_book(book);
-        turns -= 1;
+// A proved loop has to end, and nothing says that an input does: no run uses up so many turns.
+fn run_cases(from: &mut impl Read, to: &mut impl Write, book: &mut [u8; ROOM]) -> io::Result<()> {
+    let mut kind = read_kind(from)?;
+    for _ in 0..u64::MAX {
+        if !is_book(kind) {
+            break;
+        }
+        kind = run_book(from, to, book)?;
     }
+    Ok(())
 }
 
-fn main() {
+fn main(rt: HostRuntime) -> io::Result<()> {
     let mut book = [0u8; ROOM];
-    run_cases(&mut book);
+    run_cases(&mut rt.reader(), &mut io::writer(&rt), &mut book)
 }

@@ -1,12 +1,14 @@
 // Runs the form of open debits and the taking of debits over cases from standard input, and prints one line for each.
 #![tactic(auto)]
 
-ghost use Rattle.std.specs.Prelude.{◌*◌, ◌≤◌, length};
+ghost use Rattle.std.specs.Prelude.{◌*◌, ◌≤◌, length, IfOk};
 ghost use Rattle.debits_vectors.specs.Held.{Fits};
 
 use debits::{Taken, debits_sound, take_debit};
-use frames::{Kind, print_line_feed, print_number, read_kind, read_part};
+use frames::{Kind, print_line_feed, print_marks, print_number, read_kind, read_part};
 use passage::WIDTH;
+use std::io;
+use std::io::{Read, Write};
 
 // As many debits as a case may bring, and their bytes.
 const MOST: usize = 40;
@@ -26,112 +28,143 @@ const STOP: Held = Held {
 };
 
 // Debits and marks: whether they are of the right form. They are held if so, and otherwise none are.
-fn run_form(debits: &mut [u8], marks: &mut [u8]) -> Held
-    ensures { Fits result.count debits.new marks.new }
+fn run_form(
+    from: &mut impl Read,
+    to: &mut impl Write,
+    debits: &mut [u8],
+    marks: &mut [u8],
+) -> io::Result<Held>
+    ensures { IfOk result (λ held. Fits held.count debits.new marks.new) }
 {
-    let debits_part = read_part(debits);
+    let debits_part = read_part(from, debits)?;
     if !debits_part.whole {
-        return STOP;
+        return Ok(STOP);
     }
     let size = debits_part.size;
-    let marks_part = read_part(marks);
+    let marks_part = read_part(from, marks)?;
     if !marks_part.whole {
-        return STOP;
+        return Ok(STOP);
     }
     let count = marks_part.size;
     if !debits_sound(&debits[0..size], &marks[0..count]) {
-        print_number(0);
-        return Held {
+        print_number(to, 0)?;
+        return Ok(Held {
             going: true,
             count: 0,
-        };
+        });
     }
-    print_number(1);
-    Held { going: true, count }
+    print_number(to, 1)?;
+    Ok(Held { going: true, count })
 }
 
-fn print_taken(answer: Taken) {
+fn print_taken(to: &mut impl Write, answer: Taken) -> io::Result<()> {
     match answer {
-        Taken::Debit(number) => print_number(number as u64),
-        Taken::NoDebit => print_number(0),
+        Taken::Debit(number) => print_number(to, number as u64),
+        Taken::NoDebit => print_number(to, 0),
     }
 }
 
 // A credit: the number of the debit that it takes, 0 for none.
-fn run_credit(debits: &[u8], marks: &mut [u8]) -> bool
+fn run_credit(
+    from: &mut impl Read,
+    to: &mut impl Write,
+    debits: &[u8],
+    marks: &mut [u8],
+) -> io::Result<bool>
     requires { length marks.old * 810 ≤ length debits.now }
 {
     let mut credit = [0u8; WIDTH];
-    let part = read_part(&mut credit);
+    let part = read_part(from, &mut credit)?;
     if !part.whole {
-        return false;
+        return Ok(false);
     }
     if part.size != WIDTH {
-        return false;
+        return Ok(false);
     }
-    print_taken(take_debit(debits, marks, &credit));
-    true
+    print_taken(to, take_debit(debits, marks, &credit))?;
+    Ok(true)
 }
 
 // The marks as they stand.
-fn run_marks(marks: &[u8]) -> bool {
-    let mut j = 0;
-    while j < marks.len() {
-        print_number(marks[j] as u64);
-        j += 1;
-    }
-    true
+fn run_marks(to: &mut impl Write, marks: &[u8]) -> io::Result<bool> {
+    print_marks(to, marks)?;
+    Ok(true)
 }
 
 // One case of the kind on the debits that are held.
-fn run_kind(kind: u8, debits: &mut [u8], marks: &mut [u8], count: usize) -> Held
+fn run_kind(
+    from: &mut impl Read,
+    to: &mut impl Write,
+    kind: u8,
+    debits: &mut [u8],
+    marks: &mut [u8],
+    count: usize,
+) -> io::Result<Held>
     requires { Fits count debits.old marks.old }
-    ensures { Fits result.count debits.new marks.new }
+    ensures { IfOk result (λ held. Fits held.count debits.new marks.new) }
 {
     let size = count * WIDTH;
     match kind {
-        b'F' => run_form(debits, marks),
-        b'C' => Held {
-            going: run_credit(&debits[0..size], &mut marks[0..count]),
-            count,
-        },
-        b'M' => Held {
-            going: run_marks(&marks[0..count]),
-            count,
-        },
-        _ => STOP,
+        b'F' => run_form(from, to, debits, marks),
+        b'C' => {
+            let going = run_credit(from, to, &debits[0..size], &mut marks[0..count])?;
+            Ok(Held { going, count })
+        }
+        b'M' => {
+            let going = run_marks(to, &marks[0..count])?;
+            Ok(Held { going, count })
+        }
+        _ => Ok(STOP),
     }
 }
 
-fn run_case(debits: &mut [u8], marks: &mut [u8], count: usize) -> Held
+fn run_case(
+    from: &mut impl Read,
+    to: &mut impl Write,
+    debits: &mut [u8],
+    marks: &mut [u8],
+    count: usize,
+) -> io::Result<Held>
     requires { Fits count debits.old marks.old }
-    ensures { Fits result.count debits.new marks.new }
+    ensures { IfOk result (λ held. Fits held.count debits.new marks.new) }
 {
-    let Kind::Of(kind) = read_kind() else {
-        return STOP;
+    let Kind::Of(kind) = read_kind(from)? else {
+        return Ok(STOP);
     };
-    let held = run_kind(kind, debits, marks, count);
+    let held = run_kind(from, to, kind, debits, marks, count)?;
     if held.going {
-        print_line_feed();
+        print_line_feed(to)?;
     }
-    held
+    Ok(held)
 }
 
-// A proved loop has to end, and nothing says that an input does: the turns are counted down from a number that no run uses up.
-fn run_cases(debits: &mut [u8], marks: &mut [u8]) {
+// A proved loop has to end, and nothing says that an input does: no run uses up so many turns.
+fn run_cases(
+    from: &mut impl Read,
+    to: &mut impl Write,
+    debits: &mut [u8],
+    marks: &mut [u8],
+) -> io::Result<()> {
     let mut held = Held {
         going: true,
         count: 0,
     };
-    let mut turns = u64::MAX;
-    while turns > 0 && held.going {
-        held = run_case(debits, marks, held.count);
-        turns -= 1;
+    for _ in 0..u64::MAX {
+        held = run_case(from, to, debits, marks, held.count)?;
+        if !held.going {
+            break;
+        }
     }
+    Ok(())
 }
 
-fn main() {
+fn main(rt: HostRuntime) -> io::Result<()> {
     let mut debits = [0u8; ROOM];
     let mut marks = [0u8; MOST];
-    run_cases(&mut debits, &mut marks);
+    run_cases(
+        &mut rt.reader(),
+        &mut io::writer(&rt),
+        &mut debits,
+        &mut marks,
+    )
 }

@@ -1,7 +1,8 @@
 -- What two reads take, one after the other. Assumes nothing.
 use Rattle.std.proofs.Common.{ℕ, ◌+◌, ◌<◌, ◌≤◌, List, ◌++◌, Option, inr, arith, length-append}
 use Rattle.std.proofs.KnownBytes.{Consumes-trans}
-use Rattle.frames.specs.Reads.{LosesAtMost, ReadsSize, LacksPart}
+use Rattle.reading.specs.Reads.{LosesAtMost}
+use Rattle.frames.specs.Cases.{ReadsSize, LacksPart}
 
 -- a size was read, and then no more than some bytes of the part are gone
 pub loses_after_size : {a b c : Option (List ℕ)} {size n most : ℕ} → ReadsSize a b size → LosesAtMost b c n → 4 + n ≤ most → LosesAtMost a c most

@@ -1,7 +1,9 @@
-ghost use Rattle.std.specs.Prelude.{◌≡◌, ◌+◌, ◌<◌, ◌≤◌, true, false, length, take, IfOk, OnErr};
-ghost use Rattle.std.specs.Io.KnownBytes.{Consumes, IsAtEnd};
-ghost use Rattle.frames.specs.Reads.{LosesAtMost, ReadsKind, ReadsSize, ReadsPart, LacksPart};
+ghost use Rattle.std.specs.Prelude.{◌≡◌, ◌+◌, ◌≤◌, true, false, length, IfOk, OnErr};
+ghost use Rattle.std.specs.Io.KnownBytes.{IsAtEnd};
+ghost use Rattle.reading.specs.Reads.{LosesAtMost};
+ghost use Rattle.frames.specs.Cases.{ReadsKind, ReadsSize, ReadsPart, LacksPart};
 
+use reading::read_full;
 use std::io;
 use std::io::Read;
 
@@ -24,25 +26,6 @@ const NO_PART: Part = Part {
     whole: false,
     size: 0,
 };
-
-// Reads until buf is full or the input ends, and says how many bytes it put at the front of buf.
-// A read that a signal interrupts counts as one that failed.
-pub fn read_full<R: Read>(from: &mut R, buf: &mut [u8]) -> io::Result<usize>
-    ensures within { IfOk result (λ n. n ≤ length buf.new) }
-    ensures bytes { IfOk result (λ n. Consumes (R.remaining from.old) (R.remaining from.new) (take n buf.new)) }
-    ensures end { IfOk result (λ n. n < length buf.new → IsAtEnd (R.remaining from.new)) }
-    ensures err { OnErr result (LosesAtMost (R.remaining from.old) (R.remaining from.new) (length buf.new)) }
-{
-    let mut done = 0;
-    while done < buf.len() {
-        let n = from.read(&mut buf[done..])?;
-        if n == 0 {
-            return Ok(done);
-        }
-        done += n;
-    }
-    Ok(done)
-}
 
 // Reads the kind of the next case.
 pub fn read_kind<R: Read>(from: &mut R) -> io::Result<Kind>

@@ -5,5 +5,5 @@
 mod input;
 mod output;
 
-pub use input::{Kind, Part, read_full, read_kind, read_part};
+pub use input::{Kind, Part, read_kind, read_part};
 pub use output::{print_bytes, print_line_feed, print_marks, print_number};

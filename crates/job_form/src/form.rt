@@ -7,6 +7,7 @@ use lines::big_endian;
 const MOST: usize = 65536;
 
 // The length of body k, counted from 0.
+#[tactic(auto, using(crate::specs::FormLaws::four_bytes), unfolding(crate::specs::Form::length_at))]
 fn length_at(job: &[u8], k: usize) -> usize
     requires { (32 ≤ length job.now) × (k < 8) }
     ensures { LengthAt job.now k result }
@@ -17,6 +18,7 @@ fn length_at(job: &[u8], k: usize) -> usize
 }
 
 // Where body k begins; of k = 8 where the last one ends.
+#[tactic(auto, using(crate::specs::FormLaws::place_zero, crate::specs::FormLaws::place_suc))]
 fn body_place(job: &[u8], k: usize) -> usize
     requires { (32 ≤ length job.now) × (k ≤ 8) }
     ensures { result ≡ body_place job.now k }
@@ -31,6 +33,7 @@ fn body_place(job: &[u8], k: usize) -> usize
 }
 
 // Whether the bytes are a job: not too many, not too few, and filled exactly by the lengths.
+#[tactic(auto, using(crate::specs::FormLaws::too_long, crate::specs::FormLaws::too_short, crate::specs::FormLaws::is_filled))]
 pub fn is_job(job: &[u8]) -> bool
     ensures { result ≡ is_job job.now }
 {
@@ -44,6 +47,7 @@ pub fn is_job(job: &[u8]) -> bool
 }
 
 // Body k of a job, counted from 0.
+#[tactic(auto, using(crate::specs::FormLaws::not_long, crate::specs::FormLaws::not_short, crate::specs::FormLaws::body_within), unfolding(crate::specs::Form::body_of))]
 pub fn body_of(job: &[u8], k: usize) -> &[u8]
     requires { (is_job job.now ≡ true) × (k < 8) }
     ensures { result.now ≡ body_of job.now k }

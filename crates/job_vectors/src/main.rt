@@ -3,27 +3,33 @@
 
 use frames::{Kind, print_bytes, read_kind, read_part};
 use job::answer_job;
+use std::io;
+use std::io::{Read, Write};
 
-fn run_case() -> bool {
-    let Kind::Of(_) = read_kind() else {
-        return false;
+fn run_case(from: &mut impl Read, to: &mut impl Write) -> io::Result<bool> {
+    let Kind::Of(_) = read_kind(from)? else {
+        return Ok(false);
     };
     let mut job = [0u8; 65537];
     let mut line = [0u8; 133];
-    let part = read_part(&mut job);
+    let part = read_part(from, &mut job)?;
     if !part.whole {
-        return false;
+        return Ok(false);
     }
     let size = part.size;
     let end = answer_job(&mut line, &job[0..size]);
-    print_bytes(&line[0..end]);
-    true
+    print_bytes(to, &line[0..end])?;
+    Ok(true)
 }
 
-// A proved loop has to end, and nothing says that an input does: the turns are counted down from a number that no run uses up.
-fn main() {
-    let mut turns = u64::MAX;
-    while turns > 0 && run_case() {
-        turns -= 1;
+// A proved loop has to end, and nothing says that an input does: no run uses up so many turns.
+fn main(rt: HostRuntime) -> io::Result<()> {
+    let mut from = rt.reader();
+    let mut to = io::writer(&rt);
+    for _ in 0..u64::MAX {
+        if !run_case(&mut from, &mut to)? {
+            break;
+        }
     }
+    Ok(())
 }

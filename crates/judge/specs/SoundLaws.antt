@@ -29,7 +29,7 @@ use Rattle.verdicts.specs.Verdict.{word_of, word_number}
 use Rattle.verdicts.specs.VerdictLaws.{word_number_lem}
 use Rattle.verdicts.specs.declared.verdict.Verdict.{Verdict}
 use Rattle.judging.specs.Judging.{Judging, marks_before, words_of, word_at, verdict_at}
-use Rattle.judging.specs.WordLaws.{unlent_number}
+use Rattle.judging.proofs.WordLaws.{unlent_number}
 use Rattle.judging.specs.Sums.{Worded}
 use Rattle.judge.specs.Call.{Call, check_of, file_of}
 use Rattle.answers.specs.Card.{verdicts_in_use, is_card}

@@ -7,117 +7,123 @@ ghost use Rattle.judge.specs.Records.{LineKnown};
 use answers::{Answer, CallFault, FileAnswer, Summary, answer_code, fault_number};
 use frames::{Kind, print_bytes, print_line_feed, print_marks, print_number, read_kind, read_part};
 use judge::{judge_words, lines_to_record};
+use std::io;
+use std::io::{Read, Write};
 use tif::{Side, tif_line};
 use verdicts::{Record, record_of, verdict_of};
 
 // As many lines and debits as a case may bring, with room for some too many.
 const MOST: usize = 20;
 
-fn print_after_space(number: u64) {
-    print_bytes(b" ");
-    print_number(number);
+fn print_after_space(to: &mut impl Write, number: u64) -> io::Result<()> {
+    print_bytes(to, b" ")?;
+    print_number(to, number)
 }
 
-fn print_size(size: usize) {
-    print_after_space(size as u64);
+fn print_size(to: &mut impl Write, size: usize) -> io::Result<()> {
+    print_after_space(to, size as u64)
 }
 
-fn print_fault(fault: CallFault) {
-    print_bytes(b"E");
-    print_number(fault_number(fault));
+fn print_fault(to: &mut impl Write, fault: CallFault) -> io::Result<()> {
+    print_bytes(to, b"E")?;
+    print_number(to, fault_number(fault))
 }
 
-fn print_file_answer(answer: FileAnswer) {
-    print_bytes(b"0");
-    print_number(answer_code(answer));
-    print_bytes(b" ");
+fn print_file_answer(to: &mut impl Write, answer: FileAnswer) -> io::Result<()> {
+    print_bytes(to, b"0")?;
+    print_number(to, answer_code(answer))?;
+    print_bytes(to, b" ")
 }
 
-fn print_side(side: Side) {
+fn print_side(to: &mut impl Write, side: Side) -> io::Result<()> {
     match side {
-        Side::Credit => print_bytes(b"CRE"),
-        Side::Debit => print_bytes(b"DEB"),
-        Side::Neither => print_bytes(b"000"),
+        Side::Credit => print_bytes(to, b"CRE"),
+        Side::Debit => print_bytes(to, b"DEB"),
+        Side::Neither => print_bytes(to, b"000"),
     }
 }
 
-fn print_counts(s: Summary) {
-    print_size(s.lines);
-    print_size(s.accepted);
-    print_size(s.refused);
+fn print_counts(to: &mut impl Write, s: Summary) -> io::Result<()> {
+    print_size(to, s.lines)?;
+    print_size(to, s.accepted)?;
+    print_size(to, s.refused)
 }
 
-fn print_amounts(s: Summary) {
+fn print_amounts(to: &mut impl Write, s: Summary) -> io::Result<()> {
     let total = s.total;
     let accepted = s.accepted_amount;
     let refused = s.refused_amount;
-    print_after_space(total.0);
-    print_after_space(accepted.0);
-    print_after_space(refused.0);
+    print_after_space(to, total.0)?;
+    print_after_space(to, accepted.0)?;
+    print_after_space(to, refused.0)
 }
 
-fn print_summary(s: Summary) {
+fn print_summary(to: &mut impl Write, s: Summary) -> io::Result<()> {
     let file = s.answer;
     let side = s.side;
-    print_file_answer(file);
-    print_side(side);
-    print_counts(s);
-    print_amounts(s);
-    print_size(s.length);
+    print_file_answer(to, file)?;
+    print_side(to, side)?;
+    print_counts(to, s)?;
+    print_amounts(to, s)?;
+    print_size(to, s.length)
 }
 
-fn print_answer(answer: Answer) {
+fn print_answer(to: &mut impl Write, answer: Answer) -> io::Result<()> {
     match answer {
-        Answer::Refused(fault) => print_fault(fault),
-        Answer::Answered(s) => print_summary(s),
+        Answer::Refused(fault) => print_fault(to, fault),
+        Answer::Answered(s) => print_summary(to, s),
     }
 }
 
 // What stands between the parts of what is printed.
-fn print_stroke() {
-    print_bytes(b" /");
+fn print_stroke(to: &mut impl Write) -> io::Result<()> {
+    print_bytes(to, b" /")
 }
 
 // The verdict is printed as its word.
-fn print_record(record: Record, word: u64) {
+fn print_record(to: &mut impl Write, record: Record, word: u64) -> io::Result<()> {
     let gross = record.gross;
     let net = record.net;
-    print_size(record.number);
-    print_after_space(word);
-    print_after_space(gross.0);
-    print_after_space(net.0);
+    print_size(to, record.number)?;
+    print_after_space(to, word)?;
+    print_after_space(to, gross.0)?;
+    print_after_space(to, net.0)
 }
 
-fn print_line_judged(tif: &[u8], words: &[u64], k: usize)
+fn print_line_judged(to: &mut impl Write, tif: &[u8], words: &[u64], k: usize) -> io::Result<()>
     requires { LineKnown tif.now words.now k }
 {
     let word = words[k];
-    print_record(record_of(tif_line(tif, k), k + 1, verdict_of(word)), word);
+    print_record(
+        to,
+        record_of(tif_line(tif, k), k + 1, verdict_of(word)),
+        word,
+    )
 }
 
-fn print_lines_judged(tif: &[u8], words: &[u64], n: usize)
+fn print_lines_judged(to: &mut impl Write, tif: &[u8], words: &[u64], n: usize) -> io::Result<()>
     requires { (k : ℕ) → k < n → LineKnown tif.now words.now k }
 {
-    let mut k = 0;
-    while k < n {
-        print_line_judged(tif, words, k);
-        k += 1;
+    for k in 0..n {
+        print_line_judged(to, tif, words, k)?;
     }
+    Ok(())
 }
 
-fn print_marks_between(marks: &[u8]) {
-    print_stroke();
-    print_marks(marks);
-    print_stroke();
+fn print_marks_between(to: &mut impl Write, marks: &[u8]) -> io::Result<()> {
+    print_stroke(to)?;
+    print_marks(to, marks)?;
+    print_stroke(to)
 }
 
-fn print_output(out: &[u8]) {
-    print_stroke();
-    print_bytes(out);
-    print_line_feed();
+fn print_output(to: &mut impl Write, out: &[u8]) -> io::Result<()> {
+    print_stroke(to)?;
+    print_bytes(to, out)?;
+    print_line_feed(to)
 }
 
 fn run_call(
+    to: &mut impl Write,
     name: &[u8],
     received: &[u8],
     card: &[u8],
@@ -129,33 +135,41 @@ fn run_call(
     tif: &[u8],
     tst: &[u8],
     out: &mut [u8],
-) {
+) -> io::Result<()> {
     let mut words = [0u64; 9999];
     let answer = judge_words(
         name, received, card, names, book, debits, marks, tif, tst, room, &mut words, out,
     );
-    print_answer(answer);
-    print_marks_between(marks);
-    print_lines_judged(tif, &words, lines_to_record(answer));
-    print_output(out);
+    print_answer(to, answer)?;
+    print_marks_between(to, marks)?;
+    print_lines_judged(to, tif, &words, lines_to_record(answer))?;
+    print_output(to, out)
 }
 
 // The rest of a case: book, debits, marks, TIF, station table and output; false where it breaks off or a part is too long.
-fn run_lent(name: &[u8], received: &[u8], card: &[u8], names: &[u8], room: usize) -> bool {
+fn run_lent(
+    from: &mut impl Read,
+    to: &mut impl Write,
+    name: &[u8],
+    received: &[u8],
+    card: &[u8],
+    names: &[u8],
+    room: usize,
+) -> io::Result<bool> {
     let mut book = [0u8; 4096];
     let mut debits = [0u8; 16200];
     let mut marks = [0u8; MOST];
     let mut tif = [0u8; 16500];
     let mut tst = [0u8; 3000];
     let mut out = [0u8; 16600];
-    let book_part = read_part(&mut book);
-    let debits_part = read_part(&mut debits);
-    let marks_part = read_part(&mut marks);
-    let tif_part = read_part(&mut tif);
-    let tst_part = read_part(&mut tst);
-    let out_part = read_part(&mut out);
+    let book_part = read_part(from, &mut book)?;
+    let debits_part = read_part(from, &mut debits)?;
+    let marks_part = read_part(from, &mut marks)?;
+    let tif_part = read_part(from, &mut tif)?;
+    let tst_part = read_part(from, &mut tst)?;
+    let out_part = read_part(from, &mut out)?;
     if !out_part.whole {
-        return false;
+        return Ok(false);
     }
     let a = book_part.size;
     let b = debits_part.size;
@@ -164,6 +178,7 @@ fn run_lent(name: &[u8], received: &[u8], card: &[u8], names: &[u8], room: usize
     let e = tst_part.size;
     let f = out_part.size;
     run_call(
+        to,
         name,
         received,
         card,
@@ -175,30 +190,32 @@ fn run_lent(name: &[u8], received: &[u8], card: &[u8], names: &[u8], room: usize
         &tif[0..d],
         &tst[0..e],
         &mut out[0..f],
-    );
-    true
+    )?;
+    Ok(true)
 }
 
 // A case begins with name, reception moment, card, received names and a part that is as long as there are records.
-fn run_parts() -> bool {
+fn run_parts(from: &mut impl Read, to: &mut impl Write) -> io::Result<bool> {
     let mut name = [0u8; 80];
     let mut received = [0u8; 40];
     let mut card = [0u8; 40];
     let mut names = [0u8; 400];
     let mut records = [0u8; MOST];
-    let name_part = read_part(&mut name);
-    let received_part = read_part(&mut received);
-    let card_part = read_part(&mut card);
-    let names_part = read_part(&mut names);
-    let records_part = read_part(&mut records);
+    let name_part = read_part(from, &mut name)?;
+    let received_part = read_part(from, &mut received)?;
+    let card_part = read_part(from, &mut card)?;
+    let names_part = read_part(from, &mut names)?;
+    let records_part = read_part(from, &mut records)?;
     if !records_part.whole {
-        return false;
+        return Ok(false);
     }
     let a = name_part.size;
     let b = received_part.size;
     let c = card_part.size;
     let d = names_part.size;
     run_lent(
+        from,
+        to,
         &name[0..a],
         &received[0..b],
         &card[0..c],
@@ -207,20 +224,24 @@ fn run_parts() -> bool {
     )
 }
 
-fn run_case() -> bool {
-    let Kind::Of(kind) = read_kind() else {
-        return false;
+fn run_case(from: &mut impl Read, to: &mut impl Write) -> io::Result<bool> {
+    let Kind::Of(kind) = read_kind(from)? else {
+        return Ok(false);
     };
     if kind != b'C' {
-        return false;
+        return Ok(false);
     }
-    run_parts()
+    run_parts(from, to)
 }
 
-// A proved loop has to end, and nothing says that an input does: the turns are counted down from a number that no run uses up.
-fn main() {
-    let mut turns = u64::MAX;
-    while turns > 0 && run_case() {
-        turns -= 1;
+// A proved loop has to end, and nothing says that an input does: no run uses up so many turns.
+fn main(rt: HostRuntime) -> io::Result<()> {
+    let mut from = rt.reader();
+    let mut to = io::writer(&rt);
+    for _ in 0..u64::MAX {
+        if !run_case(&mut from, &mut to)? {
+            break;
+        }
     }
+    Ok(())
 }

@@ -1,7 +1,6 @@
 pub mod Judging
 pub mod Steps
 pub mod StepLaws
-pub mod WordLaws
 pub mod Sums
 pub mod SumsLaws
 pub mod Marks

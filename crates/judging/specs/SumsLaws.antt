@@ -1,12 +1,10 @@
 -- Accepted and refused make up the file: the counts add to the number of lines, the sums to the sum of all amounts; and no sum wraps. Assumes nothing.
-use Rattle.std.specs.Prelude.{◌≡◌, refl, Bool, not, List, ℕ, zero, suc, ◌+◌, ◌*◌, ◌≤◌, ◌<◌, length}
+use Rattle.std.specs.Prelude.{◌≡◌, refl, Bool, not, List, ℕ, zero, suc, ◌+◌, ◌-◌, ◌*◌, ◌≤◌, ◌<◌, length}
 use Rattle.std.proofs.Common.{◌∙◌}
 use Rattle.std.proofs.Math.Bool.{true, false, cond}
 use native.Mathlib.Omega.{arith}
 use Rattle.lines.specs.Below.{sum_below}
 use Rattle.lines.specs.BelowLaws.{sum_both, sum_le}
-use Rattle.lines.specs.Number.{number_of}
-use Rattle.passage.specs.Passage.{gross_amount}
 use Rattle.passage.specs.PassageLaws.{gross_small}
 use Rattle.tif.specs.Body.{line_at, amount_at, body_total}
 use Rattle.judging.specs.Sums.{is_accepted, is_counted, one_at, amount_of, count_of, total_of, Worded}
@@ -39,9 +37,20 @@ pub count_within : (refused : Bool) (words : List ℕ) → count_of refused word
 count_within true words = omega (arith, counts_add words)
 count_within false words = omega (arith, counts_add words)
 
+-- a line is counted with its whole amount, or not at all
+amount_within : (refused : Bool) (tif words : List ℕ) (k : ℕ) → amount_of refused tif words k ≤ amount_at tif k
+unfolding amount_of
+amount_within refused tif words k = go _ (amount_at tif k)
+  where
+    go : (b : Bool) (x : ℕ) → cond b x 0 ≤ x
+    go true x = omega arith
+    go false x = omega arith
+
 pub total_within : (refused : Bool) (tif words : List ℕ) → total_of refused tif words ≤ body_total tif (length words)
-total_within true tif words = omega (arith, amounts_add tif words)
-total_within false tif words = omega (arith, amounts_add tif words)
+unfolding total_of body_total
+total_within refused tif words =
+    let amount = amount_of refused tif words in
+    omega (arith, sum_both amount (λ i. amount_at tif i - amount i) (amount_at tif) (length words) (λ i h. omega (arith, amount_within refused tif words i)))
 
 -- ---- no sum wraps
 one_small : (refused : Bool) (words : List ℕ) (i : ℕ) → one_at refused words i ≤ 1
@@ -57,12 +66,8 @@ ones_small refused words k = omega (arith, sum_le (one_at refused words) 1 k (λ
 
 module _ (refused : Bool) (tif words : List ℕ) (w : Worded tif words) where
   pub amount_small : (k : ℕ) → k < length words → amount_of refused tif words k ≤ 99999999999
-  unfolding amount_of amount_at
-  amount_small k h = go (is_counted refused words k)
-    where
-      go : (b : Bool) → cond b (number_of (gross_amount (line_at tif k))) 0 ≤ 99999999999
-      go true = gross_small (line_at tif k) (w.digits k h)
-      go false = omega arith
+  unfolding amount_at
+  amount_small k h = omega (arith, amount_within refused tif words k, gross_small (line_at tif k) (w.digits k h))
 
   pub amounts_small : (k : ℕ) → k ≤ length words → sum_below k (amount_of refused tif words) ≤ 99999999999 * k
   amounts_small k h = sum_le (amount_of refused tif words) 99999999999 k (λ i l. amount_small i (omega arith))

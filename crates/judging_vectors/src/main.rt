@@ -12,60 +12,62 @@ use debits::debits_sound;
 use frames::{Kind, print_bytes, print_line_feed, print_marks, print_number, read_kind, read_part};
 use judging::{Sums, Tally, judge_lines, sums_of};
 use lines::field;
+use std::io;
+use std::io::{Read, Write};
 use tif::{Acceptance, NAME_SENDER, acceptance_of, side_of};
 
 // As many lines as a file may bring.
 const MOST: usize = 16;
 
-fn print_word(word: u64) {
-    print_number(word);
-    print_bytes(b" ");
+fn print_word(to: &mut impl Write, word: u64) -> io::Result<()> {
+    print_number(to, word)?;
+    print_bytes(to, b" ")
 }
 
-fn print_words(words: &[u64]) {
-    let mut k = 0;
-    while k < words.len() {
-        print_word(words[k]);
-        k += 1;
+fn print_words(to: &mut impl Write, words: &[u64]) -> io::Result<()> {
+    for word in words {
+        print_word(to, *word)?;
     }
+    Ok(())
 }
 
 // What stands between the words and the marks.
-fn print_stroke() {
-    print_bytes(b"/");
+fn print_stroke(to: &mut impl Write) -> io::Result<()> {
+    print_bytes(to, b"/")
 }
 
-fn print_counts(accepted: Tally, refused: Tally) {
-    print_bytes(b" ");
-    print_number(accepted.count.0);
-    print_bytes(b" ");
-    print_number(refused.count.0);
+fn print_counts(to: &mut impl Write, accepted: Tally, refused: Tally) -> io::Result<()> {
+    print_bytes(to, b" ")?;
+    print_number(to, accepted.count.0)?;
+    print_bytes(to, b" ")?;
+    print_number(to, refused.count.0)
 }
 
-fn print_amounts(accepted: Tally, refused: Tally) {
-    print_bytes(b" ");
-    print_number(accepted.amount.0);
-    print_bytes(b" ");
-    print_number(refused.amount.0);
+fn print_amounts(to: &mut impl Write, accepted: Tally, refused: Tally) -> io::Result<()> {
+    print_bytes(to, b" ")?;
+    print_number(to, accepted.amount.0)?;
+    print_bytes(to, b" ")?;
+    print_number(to, refused.amount.0)
 }
 
-fn print_sums(sums: Sums) {
+fn print_sums(to: &mut impl Write, sums: Sums) -> io::Result<()> {
     let accepted = sums.accepted;
     let refused = sums.refused;
-    print_counts(accepted, refused);
-    print_amounts(accepted, refused);
-    print_line_feed();
+    print_counts(to, accepted, refused)?;
+    print_amounts(to, accepted, refused)?;
+    print_line_feed(to)
 }
 
 // Judges as many lines of the file as there are words, with no station table lent.
 fn run_lines(
+    to: &mut impl Write,
     sender: &[u8],
     book: &[u8],
     debits: &[u8],
     marks: &mut [u8],
     tif: &[u8],
     words: &mut [u64],
-)
+) -> io::Result<()>
     requires { Given book.now debits.now marks.old tif.now (length words.old) × Ready tif.now (length words.old) }
 {
     let none = [0u8; 1];
@@ -79,69 +81,78 @@ fn run_lines(
         &none[0..0],
         words,
     );
-    print_words(words);
-    print_stroke();
-    print_marks(marks);
-    print_sums(sums_of(tif, words));
+    print_words(to, words)?;
+    print_stroke(to)?;
+    print_marks(to, marks)?;
+    print_sums(to, sums_of(tif, words))
 }
 
 // Judges the file, once its book is known to be sound; false where something else is not, or the lines are too many.
 fn run_sound(
+    to: &mut impl Write,
     name: &[u8],
     book: &[u8],
     debits: &[u8],
     marks: &mut [u8],
     tif: &[u8],
     words: &mut [u64],
-) -> bool
+) -> io::Result<bool>
     requires { book_sound width book.now ≡ true }
 {
     if name.len() != 35 {
-        return false;
+        return Ok(false);
     }
     if !debits_sound(debits, marks) {
-        return false;
+        return Ok(false);
     }
     let Acceptance::Judged(whole) = acceptance_of(name, &name[0..0], tif) else {
-        return false;
+        return Ok(false);
     };
     let n = whole.lines;
     if n > words.len() {
-        return false;
+        return Ok(false);
     }
     run_lines(
+        to,
         field(name, NAME_SENDER),
         book,
         debits,
         marks,
         tif,
         &mut words[0..n],
-    );
-    true
+    )?;
+    Ok(true)
 }
 
-fn run_file(name: &[u8], book: &[u8], debits: &[u8], marks: &mut [u8], tif: &[u8]) -> bool {
+fn run_file(
+    to: &mut impl Write,
+    name: &[u8],
+    book: &[u8],
+    debits: &[u8],
+    marks: &mut [u8],
+    tif: &[u8],
+) -> io::Result<bool> {
     let mut words = [0u64; MOST];
     match check_book(book) {
-        BookForm::Sound => run_sound(name, book, debits, marks, tif, &mut words),
-        BookForm::OutOfForm => false,
+        BookForm::Sound => run_sound(to, name, book, debits, marks, tif, &mut words),
+        BookForm::OutOfForm => Ok(false),
     }
 }
 
 // A case of a name, a book, debits, marks and a TIF; false where it breaks off or a part is too long.
-fn run_parts() -> bool {
+fn run_parts(from: &mut impl Read, to: &mut impl Write) -> io::Result<bool> {
     let mut name = [0u8; 35];
     let mut book = [0u8; 4096];
     let mut debits = [0u8; 12960];
     let mut marks = [0u8; MOST];
     let mut tif = [0u8; 13230];
-    let name_part = read_part(&mut name);
-    let book_part = read_part(&mut book);
-    let debits_part = read_part(&mut debits);
-    let marks_part = read_part(&mut marks);
-    let tif_part = read_part(&mut tif);
+    let name_part = read_part(from, &mut name)?;
+    let book_part = read_part(from, &mut book)?;
+    let debits_part = read_part(from, &mut debits)?;
+    let marks_part = read_part(from, &mut marks)?;
+    let tif_part = read_part(from, &mut tif)?;
     if !tif_part.whole {
-        return false;
+        return Ok(false);
     }
     let a = name_part.size;
     let b = book_part.size;
@@ -149,6 +160,7 @@ fn run_parts() -> bool {
     let d = marks_part.size;
     let e = tif_part.size;
     run_file(
+        to,
         &name[0..a],
         &book[0..b],
         &debits[0..c],
@@ -157,20 +169,24 @@ fn run_parts() -> bool {
     )
 }
 
-fn run_case() -> bool {
-    let Kind::Of(kind) = read_kind() else {
-        return false;
+fn run_case(from: &mut impl Read, to: &mut impl Write) -> io::Result<bool> {
+    let Kind::Of(kind) = read_kind(from)? else {
+        return Ok(false);
     };
     if kind != b'J' {
-        return false;
+        return Ok(false);
     }
-    run_parts()
+    run_parts(from, to)
 }
 
-// A proved loop has to end, and nothing says that an input does: the turns are counted down from a number that no run uses up.
-fn main() {
-    let mut turns = u64::MAX;
-    while turns > 0 && run_case() {
-        turns -= 1;
+// A proved loop has to end, and nothing says that an input does: no run uses up so many turns.
+fn main(rt: HostRuntime) -> io::Result<()> {
+    let mut from = rt.reader();
+    let mut to = io::writer(&rt);
+    for _ in 0..u64::MAX {
+        if !run_case(&mut from, &mut to)? {
+            break;
+        }
     }
+    Ok(())
 }

@@ -12,7 +12,7 @@ use Rattle.verdicts.specs.Record.{record_of}
 use Rattle.verdicts.specs.Verdict.{verdict_of}
 use Rattle.verdicts.specs.declared.record.Record.{Record}
 use Rattle.judging.specs.Judging.{marks_before, verdict_at, word_at, words_of}
-use Rattle.judging.specs.WordLaws.{word_verdict}
+use Rattle.judging.proofs.WordLaws.{word_verdict}
 use Rattle.answers.specs.Told.{too_small}
 use Rattle.judge.specs.Call.{Call, check_of, judging_of, lines_of, words_judged, marks_judged, summary_of, lines_to_record, is_answered, answer_of, marks_of, records_of}
 use Rattle.judge.specs.CoreLaws.{words_length}

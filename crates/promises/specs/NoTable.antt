@@ -14,7 +14,7 @@ use Rattle.verdicts.specs.LineTests.{line_rows, failing, test_line, passes}
 use Rattle.verdicts.specs.declared.line_tests.LineTest.TheVariants.{Passes}
 use Rattle.verdicts.specs.Verdict.{verdict_number}
 use Rattle.judging.specs.Judging.{is_credit_file, cover_on, accepted_by, taken_on, known_on, all_rows, verdict_on, reaches_at}
-use Rattle.judging.specs.WordLaws.{unlent_number}
+use Rattle.judging.proofs.WordLaws.{unlent_number}
 use Rattle.answers.specs.Card.{is_card}
 use Rattle.answers.specs.Fault.{lent_rows, check_lent, call_rows, check_call}
 use Rattle.answers.specs.declared.answer.CallCheck.{CallCheck}

@@ -2,6 +2,8 @@
 #![tactic(auto)]
 
 use frames::{Kind, print_bytes, print_line_feed, print_number, read_kind, read_part};
+use std::io;
+use std::io::{Read, Write};
 use tic::{Listed, Rewritten, fault_number, listed_line, read_tic, rewrite_tic};
 use tic_text::{TicFault, TicReading, TicValues};
 use tif::Side;
@@ -9,92 +11,89 @@ use tif::Side;
 // The longest TIC of a case, and the longest output.
 const LONGEST: usize = 8192;
 
-fn print_fault(fault: TicFault) {
-    print_bytes(b"T");
-    print_number(fault_number(fault));
+fn print_fault(to: &mut impl Write, fault: TicFault) -> io::Result<()> {
+    print_bytes(to, b"T")?;
+    print_number(to, fault_number(fault))
 }
 
-fn print_side(side: Side) {
+fn print_side(to: &mut impl Write, side: Side) -> io::Result<()> {
     match side {
-        Side::Credit => print_bytes(b" CRE "),
-        Side::Debit => print_bytes(b" DEB "),
-        Side::Neither => print_bytes(b" 000 "),
+        Side::Credit => print_bytes(to, b" CRE "),
+        Side::Debit => print_bytes(to, b" DEB "),
+        Side::Neither => print_bytes(to, b" 000 "),
     }
 }
 
-fn print_values(values: TicValues) {
+fn print_values(to: &mut impl Write, values: TicValues) -> io::Result<()> {
     let head = values.head;
     let sums = values.sums;
     let side = head.side;
-    print_bytes(b"0");
-    print_number(head.acceptance);
-    print_side(side);
-    print_number(head.accepted.0);
-    print_bytes(b" ");
-    print_number(head.rejected.0);
-    print_bytes(b" ");
-    print_number(values.listed as u64);
-    print_bytes(b" ");
-    print_number(sums.accepted.0);
-    print_bytes(b" ");
-    print_number(sums.rejected.0);
+    print_bytes(to, b"0")?;
+    print_number(to, head.acceptance)?;
+    print_side(to, side)?;
+    print_number(to, head.accepted.0)?;
+    print_bytes(to, b" ")?;
+    print_number(to, head.rejected.0)?;
+    print_bytes(to, b" ")?;
+    print_number(to, values.listed as u64)?;
+    print_bytes(to, b" ")?;
+    print_number(to, sums.accepted.0)?;
+    print_bytes(to, b" ")?;
+    print_number(to, sums.rejected.0)
 }
 
-fn print_reading(tic: &[u8]) {
+fn print_reading(to: &mut impl Write, tic: &[u8]) -> io::Result<()> {
     match read_tic(tic) {
-        TicReading::Unreadable(fault) => print_fault(fault),
-        TicReading::Values(values) => print_values(values),
+        TicReading::Unreadable(fault) => print_fault(to, fault),
+        TicReading::Values(values) => print_values(to, values),
     }
 }
 
-fn print_place(line: usize, code: usize) {
-    print_number(line as u64);
-    print_bytes(b" ");
-    print_number(code as u64);
+fn print_place(to: &mut impl Write, line: usize, code: usize) -> io::Result<()> {
+    print_number(to, line as u64)?;
+    print_bytes(to, b" ")?;
+    print_number(to, code as u64)
 }
 
-fn print_listed(tic: &[u8], k: usize) {
+fn print_listed(to: &mut impl Write, tic: &[u8], k: usize) -> io::Result<()> {
     match listed_line(tic, k) {
-        Listed::At(line, code) => print_place(line, code),
-        Listed::NoSuchLine => print_bytes(b"T6"),
-        Listed::Unreadable(fault) => print_fault(fault),
+        Listed::At(line, code) => print_place(to, line, code),
+        Listed::NoSuchLine => print_bytes(to, b"T6"),
+        Listed::Unreadable(fault) => print_fault(to, fault),
     }
 }
 
 // The length written, where the bytes written are those that were read.
-fn print_written(tic: &[u8], out: &[u8], n: usize) {
+fn print_written(to: &mut impl Write, tic: &[u8], out: &[u8], n: usize) -> io::Result<()> {
     if n != tic.len() {
-        print_bytes(b"DIFFERS");
-        return;
+        return print_bytes(to, b"DIFFERS");
     }
     if n > out.len() {
-        print_bytes(b"DIFFERS");
-        return;
+        return print_bytes(to, b"DIFFERS");
     }
     if !lines::is_same(&out[0..n], tic) {
-        print_bytes(b"DIFFERS");
-        return;
+        return print_bytes(to, b"DIFFERS");
     }
-    print_number(n as u64);
+    print_number(to, n as u64)
 }
 
-fn print_rewritten(tic: &[u8], out: &mut [u8]) {
+fn print_rewritten(to: &mut impl Write, tic: &[u8], out: &mut [u8]) -> io::Result<()> {
     match rewrite_tic(tic, out) {
-        Rewritten::Unreadable(fault) => print_fault(fault),
-        Rewritten::TooShort => print_bytes(b"E7"),
-        Rewritten::Written(n) => print_written(tic, out, n),
+        Rewritten::Unreadable(fault) => print_fault(to, fault),
+        Rewritten::TooShort => print_bytes(to, b"E7"),
+        Rewritten::Written(n) => print_written(to, tic, out, n),
     }
 }
 
-fn run_read() -> bool {
+fn run_read(from: &mut impl Read, to: &mut impl Write) -> io::Result<bool> {
     let mut tic = [0u8; LONGEST];
-    let part = read_part(&mut tic);
+    let part = read_part(from, &mut tic)?;
     if !part.whole {
-        return false;
+        return Ok(false);
     }
     let size = part.size;
-    print_reading(&tic[0..size]);
-    true
+    print_reading(to, &tic[0..size])?;
+    Ok(true)
 }
 
 // What stands in a part of four bytes.
@@ -104,74 +103,78 @@ enum Number {
     Missing,
 }
 
-fn read_number() -> Number {
+fn read_number(from: &mut impl Read) -> io::Result<Number> {
     let mut four = [0u8; 4];
-    let part = read_part(&mut four);
+    let part = read_part(from, &mut four)?;
     if !part.whole {
-        return Number::Missing;
+        return Ok(Number::Missing);
     }
     if part.size != 4 {
-        return Number::Missing;
+        return Ok(Number::Missing);
     }
-    Number::Is(lines::big_endian(&four))
+    Ok(Number::Is(lines::big_endian(&four)))
 }
 
-fn run_listed() -> bool {
+fn run_listed(from: &mut impl Read, to: &mut impl Write) -> io::Result<bool> {
     let mut tic = [0u8; LONGEST];
-    let part = read_part(&mut tic);
+    let part = read_part(from, &mut tic)?;
     if !part.whole {
-        return false;
+        return Ok(false);
     }
     let size = part.size;
-    let Number::Is(k) = read_number() else {
-        return false;
+    let Number::Is(k) = read_number(from)? else {
+        return Ok(false);
     };
-    print_listed(&tic[0..size], k);
-    true
+    print_listed(to, &tic[0..size], k)?;
+    Ok(true)
 }
 
-fn run_rewritten() -> bool {
+fn run_rewritten(from: &mut impl Read, to: &mut impl Write) -> io::Result<bool> {
     let mut tic = [0u8; LONGEST];
     let mut out = [0u8; LONGEST];
-    let part = read_part(&mut tic);
+    let part = read_part(from, &mut tic)?;
     if !part.whole {
-        return false;
+        return Ok(false);
     }
     let size = part.size;
-    let Number::Is(room) = read_number() else {
-        return false;
+    let Number::Is(room) = read_number(from)? else {
+        return Ok(false);
     };
     if room > LONGEST {
-        return false;
+        return Ok(false);
     }
-    print_rewritten(&tic[0..size], &mut out[0..room]);
-    true
+    print_rewritten(to, &tic[0..size], &mut out[0..room])?;
+    Ok(true)
 }
 
-fn run_kind(kind: u8) -> bool {
+fn run_kind(from: &mut impl Read, to: &mut impl Write, kind: u8) -> io::Result<bool> {
     match kind {
-        b'R' => run_read(),
-        b'L' => run_listed(),
-        b'W' => run_rewritten(),
-        _ => false,
+        b'R' => run_read(from, to),
+        b'L' => run_listed(from, to),
+        b'W' => run_rewritten(from, to),
+        _ => Ok(false),
     }
 }
 
-fn run_case() -> bool {
-    let Kind::Of(kind) = read_kind() else {
-        return false;
+fn run_case(from: &mut impl Read, to: &mut impl Write) -> io::Result<bool> {
+    let Kind::Of(kind) = read_kind(from)? else {
+        return Ok(false);
     };
-    if !run_kind(kind) {
-        return false;
+    if !run_kind(from, to, kind)? {
+        return Ok(false);
     }
-    print_line_feed();
-    true
+    print_line_feed(to)?;
+    Ok(true)
 }
 
-// A proved loop has to end, and nothing says that an input does: the turns are counted down from a number that no run uses up.
-fn main() {
-    let mut turns = u64::MAX;
-    while turns > 0 && run_case() {
-        turns -= 1;
+// A proved loop has to end, and nothing says that an input does: no run uses up so many turns.
+fn main(rt: HostRuntime) -> io::Result<()> {
+    let mut from = rt.reader();
+    let mut to = io::writer(&rt);
+    for _ in 0..u64::MAX {
+        if !run_case(&mut from, &mut to)? {
+            break;
+        }
     }
+    Ok(())
 }

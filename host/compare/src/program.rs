@@ -22,7 +22,7 @@ pub fn program() -> Result<PathBuf, String> {
     }
     Err(format!(
         "there is no proved program at {}\n\
-         Run `rt check quindaf` in the root of the repository first,\n\
+         Run `tools/build.sh` in the root of the repository first,\n\
          or name the file by {VARIABLE}.",
         program.display()
     ))

@@ -1,14 +1,13 @@
 use native.Mathlib.Omega.{arith}
-use Prim.Native.Nat.{ℕ, ◌-◌, ◌≤◌}
+use Prim.Native.Nat.{ℕ}
 use mathlib.Core.Path.{◌≡◌, refl, sym, ap, ◌∙◌}
 use mathlib.Core.List.{List, ◌++◌}
-use lib.ListN.{length, drop}
+use lib.ListN.{length}
 use borrow.Author.Rules.{rules}
 use mathlib.Core.List.{append-nil}
 use lib.Seq.{drop-length}
-use Rattle.lines.specs.Below.{table_below}
 use Rattle.lines.specs.BelowLaws.{table_zero}
-use Rattle.judging.specs.Judging.{judging, marks_before, word_at, words_of}
+use Rattle.judging.specs.Judging.{judging, words_of}
 use Rattle.judging.specs.StepLaws.{turn, before_zero}
 use Rattle.judging.proofs.file.judge_each.Goals as goal
 

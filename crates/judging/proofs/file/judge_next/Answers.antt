@@ -1,7 +1,6 @@
 use mathlib.Core.Path.{ap, ◌∙◌}
-use borrow.Author.Rules.{rules}
 use Rattle.verdicts.specs.Verdict.{word_of}
-use Rattle.judging.specs.WordLaws.{verdict_fits}
+use Rattle.judging.proofs.WordLaws.{verdict_fits}
 use Rattle.judging.proofs.file.judge_next.Goals as goal
 
 pub word_of-requires : goal.word_of-requires

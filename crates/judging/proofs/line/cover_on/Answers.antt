@@ -1,7 +1,6 @@
 use native.Mathlib.Omega.{arith}
 use mathlib.Core.Path.{◌∙◌}
 use lib.ListN.{drop}
-use borrow.Author.Rules.{rules}
 use lib.ListN.{length-take, length-drop}
 use Rattle.judging.specs.Judging.{cover_on}
 use Rattle.judging.proofs.line.cover_on.Goals as goal

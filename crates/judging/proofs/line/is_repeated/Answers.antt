@@ -1,11 +1,8 @@
 use native.Mathlib.Omega.{arith}
-use Prim.Native.Nat.{◌-◌, ◌≤◌}
 use mathlib.Core.Path.{◌≡◌, sym, ◌∙◌}
-use mathlib.Core.Bool.{false}
 use borrow.Author.Rules.{rules}
-use Rattle.lines.specs.Below.{some_below}
 use Rattle.lines.specs.BelowLaws.{some_zero, some_more, some_hit}
-use Rattle.judging.specs.Judging.{repeats_at, repeated_at}
+use Rattle.judging.specs.Judging.{repeated_at}
 use Rattle.judging.proofs.line.is_repeated.Goals as goal
 
 pub loop-i-init : goal.loop-i-init

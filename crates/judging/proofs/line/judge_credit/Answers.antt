@@ -1,5 +1,4 @@
 use mathlib.Core.Path.{◌≡◌, sym, ap, ◌∙◌}
-use borrow.Author.Rules.{rules}
 use Rattle.debits.specs.Taking.{marks_then}
 use Rattle.debits.specs.declared.taking.Taken.{Taken}
 use Rattle.judging.specs.Judging.{credit_of}

@@ -1,5 +1,4 @@
 use mathlib.Core.Path.{◌≡◌, sym, ap, ◌∙◌}
-use borrow.Author.Rules.{rules}
 use Rattle.tif.specs.Body.{line_at}
 use Rattle.cover.specs.declared.cover.Cover.{Cover}
 use Rattle.judging.specs.Judging.{repeated_at, cover_on, covered_by, debit_verdict}

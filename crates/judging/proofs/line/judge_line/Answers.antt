@@ -3,13 +3,13 @@ use mathlib.Core.Bool.{Bool}
 use mathlib.Core.List.{List}
 use Prim.Native.Nat.{ℕ}
 use lib.ListN.{length}
-use borrow.Author.Rules.{rules}
 use Rattle.passage.specs.Passage.{line_width}
 use Rattle.tst.specs.Stations.{is_known_station}
 use Rattle.verdicts.specs.LineTests.{test_line}
 use Rattle.verdicts.specs.declared.line_tests.LineTest.{LineTest}
 use Rattle.judging.specs.Judging.{judging, test_on}
-use Rattle.judging.specs.StepLaws.{line_whole, fails_judged, passes_judged}
+use Rattle.judging.specs.StepLaws.{line_whole}
+use Rattle.judging.proofs.JudgedLaws.{fails_judged, passes_judged}
 use Rattle.judging.proofs.line.judge_line.Goals as goal
 use Rattle.judging.proofs.line.judge_line.Goals.{After-test_line, After-tif_line-line}
 

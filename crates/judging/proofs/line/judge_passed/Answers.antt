@@ -1,5 +1,4 @@
 use mathlib.Core.Path.{◌≡◌}
-use borrow.Author.Rules.{rules}
 use Rattle.tif.specs.declared.side.Side.{Side}
 use Rattle.judging.specs.StepLaws.{line_whole, credit_passed, debit_passed, neither_passed}
 use Rattle.judging.proofs.line.judge_passed.Goals as goal

@@ -1,7 +1,6 @@
 use native.Mathlib.Omega.{arith}
 use mathlib.Core.Path.{sym, ap, ◌∙◌}
 use lib.ListN.{drop}
-use borrow.Author.Rules.{rules}
 use lib.ListN.{length-take}
 use Rattle.tif.specs.Body.{line_at, amount_at}
 use Rattle.judging.specs.Sums.{amount_of}

@@ -1,4 +1,3 @@
-use borrow.Author.Rules.{rules}
 use Rattle.judging.specs.Sums.{is_accepted, is_counted}
 use Rattle.judging.proofs.sums.is_counted.Goals as goal
 

@@ -1,5 +1,4 @@
 use mathlib.Core.Path.{sym, ◌∙◌}
-use borrow.Author.Rules.{rules}
 use Rattle.judging.specs.Sums.{one_at}
 use Rattle.judging.proofs.sums.one_at.Goals as goal
 

@@ -1,13 +1,8 @@
-use native.Mathlib.Omega.{arith}
-use Prim.Native.Nat.{ℕ, ◌+◌, ◌-◌, ◌≤◌}
-use mathlib.Core.Path.{◌≡◌, sym, ap, ◌∙◌}
+use Prim.Native.Nat.{◌-◌, ◌≤◌}
+use mathlib.Core.Path.{◌≡◌}
 use lib.ListN.{length}
-use borrow.Author.Rules.{rules}
 use Rattle.lines.specs.Below.{sum_below}
-use Rattle.lines.specs.BelowLaws.{sum_zero, sum_suc}
-use Rattle.judging.specs.Sums.{one_at, amount_of, count_of, total_of}
-use Rattle.judging.specs.SumsLaws.{ones_small, amounts_small}
-use Rattle.judging.specs.Sums.{tally_with}
+use Rattle.judging.specs.Sums.{one_at, amount_of}
 use Rattle.judging.proofs.sums.tally_of.Given as goal
 
 abbrev pub invariant-loop-k : goal.invariant-loop-k
