@@ -316,40 +316,40 @@ def turn(entry, path, fn_path):
         return m.group(1).split(), m.group(2).strip()
 
     def calls(it, h):
-        return re.search(rf"(?<![\w.'-]){re.escape(h)}(?![\w'-])", "\n".join(it.sign[:1] if False else it.sign + it.body))
+        return re.search(rf"(?<![\w.'-]){re.escape(h)}(?![\w'-])", "\n".join(it.sign + it.body))
 
     hs = [it for it in its if it.kind == "helper" and it.name in t.helpers]
     for _ in range(8):
-      changed = False
-      for h in [h for h in hs if h.kind != "gone"]:
-          used_low = any(o is not h and calls(o, h.name) and getattr(o, "place", None) != h.place for o in hs)
-          if not ("abbrev" in h.prefix or used_low):
-              continue
-          c = clause(h)
-          if c is None:
-              continue
-          everywhere = "abbrev" in h.prefix
-          said = re.match(rf".*?\((\w+) : tie\.[^)]*\)\s*→\s*(.*)$", "\n".join(h.sign), re.S)
-          if not everywhere and len(c[0]) == 1 and said and ("omega" in c[1] or "search" in c[1] or "(cc)" in c[1]):
-              goal_type = re.sub(rf"(?<![\w.'-]){said.group(1)}(?![\w'-])", c[0][0], said.group(2))
-              c = (c[0], f"let it : ({goal_type}) = {c[1]} in it")
-          for o in its:
-              if o is h or not (everywhere or o in hs):
-                  continue
-              o.sign = [o.sign[0].split(" : ", 1)[0] + " : " + inline("\n".join(o.sign).split(" : ", 1)[1], h.name, *c)] if calls(o, h.name) else o.sign
-              before = "\n".join(o.body)
-              after = inline(before, h.name, *c)
-              if after != before:
-                  changed = True
-                  o.body = after.split("\n")
-                  for u in h.unfold:
-                      if not everywhere and u not in o.unfold:
-                          o.unfold.append(u)
-          if everywhere:
-              h.kind = "gone"
-              t.helpers.pop(h.name)
-      if not changed:
-          break
+        changed = False
+        for h in [h for h in hs if h.kind != "gone"]:
+            used_low = any(o is not h and calls(o, h.name) and getattr(o, "place", None) != h.place for o in hs)
+            if not ("abbrev" in h.prefix or used_low):
+                continue
+            c = clause(h)
+            if c is None:
+                continue
+            everywhere = "abbrev" in h.prefix
+            said = re.match(rf".*?\((\w+) : tie\.[^)]*\)\s*→\s*(.*)$", "\n".join(h.sign), re.S)
+            if not everywhere and len(c[0]) == 1 and said and ("omega" in c[1] or "search" in c[1] or "(cc)" in c[1]):
+                goal_type = re.sub(rf"(?<![\w.'-]){said.group(1)}(?![\w'-])", c[0][0], said.group(2))
+                c = (c[0], f"let it : ({goal_type}) = {c[1]} in it")
+            for o in its:
+                if o is h or not (everywhere or o in hs):
+                    continue
+                o.sign = [o.sign[0].split(" : ", 1)[0] + " : " + inline("\n".join(o.sign).split(" : ", 1)[1], h.name, *c)] if calls(o, h.name) else o.sign
+                before = "\n".join(o.body)
+                after = inline(before, h.name, *c)
+                if after != before:
+                    changed = True
+                    o.body = after.split("\n")
+                    for u in h.unfold:
+                        if not everywhere and u not in o.unfold:
+                            o.unfold.append(u)
+            if everywhere:
+                h.kind = "gone"
+                t.helpers.pop(h.name)
+        if not changed:
+            break
     for it in its:
         body = "\n".join(it.body).rstrip()
         if it.kind == "given":
