@@ -11,6 +11,7 @@ use tic_text::{TicHead, TicSums};
 use tif::{Acceptance, Whole, side_of};
 
 // 00 where no line is refused, 01 where one is.
+#[tactic(auto, unfolding(crate::specs::Told::judged_answer))]
 fn judged_answer(refused: usize) -> FileAnswer
     ensures { result ≡ judged_answer refused }
 {

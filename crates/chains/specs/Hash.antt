@@ -2,6 +2,10 @@
 use Rattle.std.specs.Prelude.{◌≡◌, List, ℕ, zero, suc, ◌+◌, ◌*◌, ◌/◌, ◌%◌, ◌<◌, length, get_or}
 use Rattle.lines.specs.Spans.{span_count, span_of}
 
+-- how many hashes there are
+abbrev pub hashes : ℕ
+hashes = 4096
+
 -- one byte more
 abbrev pub mixed : ℕ → ℕ → ℕ
 mixed h b = (h * 2654435761 + b + 1) % 4294967296
@@ -25,6 +29,10 @@ folded h = mixed h 0 / 1048576 % 4096
 
 unfoldable pub hash_of : List ℕ → List ℕ → ℕ
 hash_of spans line = folded (mix_spans spans line (span_count spans))
+
+-- the hash of two texts
+unfoldable pub hash_two : List ℕ → List ℕ → ℕ
+hash_two a b = folded (mix_text (mix_text 0 a) b)
 
 -- r is h with the text mixed onto it
 pub record Mixed (h : ℕ) (text : List ℕ) (r : ℕ) : Type 0 where

@@ -7,7 +7,7 @@ use Prim.Native.Nat.{ℕ, zero, suc, ◌+◌, ◌/◌, ◌≤◌, ◌<◌}
 use Rattle.lines.specs.BelowLaws.{all_at}
 use Rattle.lines.specs.SameLaws.{same_is}
 use Rattle.lines.specs.Spans.{span_count, span_of, span_agrees, agree_across}
-use Rattle.chains.specs.Hash.{mixed, mix_bytes, mix_text, mix_spans, folded, hash_of}
+use Rattle.chains.specs.Hash.{mixed, mix_bytes, mix_text, mix_spans, folded, hash_of, hash_two}
 
 pub bytes_zero : (h : ℕ) (text : List ℕ) → mix_bytes h text 0 ≡ h
 unfolding mix_bytes
@@ -28,6 +28,10 @@ spans_suc spans line m = rw (add-one m)
 pub hash_small : (spans line : List ℕ) → hash_of spans line < 4096
 unfolding hash_of
 hash_small spans line = mod-lt (mixed (mix_spans spans line (span_count spans)) 0 / 1048576) (zero-lt-suc 4095)
+
+pub two_small : (a b : List ℕ) → hash_two a b < 4096
+unfolding hash_two
+two_small a b = mod-lt (mixed (mix_text (mix_text 0 a) b) 0 / 1048576) (zero-lt-suc 4095)
 
 -- ---- agreement
 module _ (ss a ts b : List ℕ) (agree : agree_across ss a ts b ≡ true) where

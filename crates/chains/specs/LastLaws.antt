@@ -1,13 +1,15 @@
 -- The laws of the last number: at 0, at one more, and that a search may go from one such number to the one before. Assumes nothing.
 use Rattle.std.specs.Prelude.{◌≡◌, Bool, ◌||◌}
 use Rattle.std.proofs.Math.Path.{refl, sym, ap}
-use Rattle.std.proofs.Common.{◌∙◌, add-one}
+use Rattle.std.proofs.Common.{◌∙◌, add-one, lt-ltb}
 use Rattle.std.proofs.Math.Bool.{true, false, cond}
 use Rattle.std.proofs.lemmas.Bool.{false≢true}
 use Prim.Native.Nat.{ℕ, zero, suc, ◌+◌, ◌≤◌}
 use native.Mathlib.Omega.{arith}
+use Rattle.std.proofs.Math.Dec.{ltb}
 use Rattle.lines.specs.Below.{some_below}
 use Rattle.lines.specs.BelowLaws.{some_suc}
+use Rattle.lines.specs.BoolLaws.{or_true_right}
 use Rattle.chains.specs.Last.{last_below}
 
 module _ (p : ℕ → Bool) where
@@ -41,6 +43,17 @@ module _ (p : ℕ → Bool) where
       go : (last_below k p ≡ j + 1 → p j ≡ true) → (b : Bool) → p k ≡ b → cond b (suc k) (last_below k p) ≡ j + 1 → p j ≡ true
       go ih true f g = let s : j ≡ k = omega arith in ap p s ∙ f
       go ih false f g = ih g
+
+  -- something holds below k just where there is a last
+  pub last_some : (k : ℕ) → some_below k p ≡ ltb 0 (last_below k p)
+  unfolding last_below some_below
+  last_some zero = refl
+  last_some (suc k) = go (some_below k p) (last_some k) (p k)
+    where
+      go : (a : Bool) → a ≡ ltb 0 (last_below k p) → (b : Bool) → (a || b) ≡ ltb 0 (cond b (suc k) (last_below k p))
+      go a ih true = or_true_right a true refl ∙ sym (lt-ltb 0 (suc k) (omega arith))
+      go true ih false = ih
+      go false ih false = ih
 
 or_drop : (a b : Bool) → b ≡ false → (a || b) ≡ a
 or_drop true b e = refl

@@ -7,3 +7,9 @@ pub mod IndexLaws
 pub mod Chain
 pub mod ChainLaws
 pub mod MemberLaws
+pub mod LastChain
+pub mod LastChainLaws
+pub mod Ahead
+pub mod NextLaws
+pub mod AheadLaws
+pub mod CutLaws

@@ -1,8 +1,11 @@
 ghost use Rattle.std.specs.Prelude.{◌≡◌, true, ◌<◌, length};
 ghost use Rattle.lines.specs.Spans.{spans_in};
-ghost use Rattle.chains.specs.Hash.{mixed, Mixed, Hashed};
+ghost use Rattle.chains.specs.Hash.{hashes, mixed, hash_two, Mixed, Hashed};
 
 use lines::{Columns, field};
+
+// How many hashes there are.
+pub const HASHES: usize = 4096;
 
 fn wide(x: u8) -> usize
     ensures { (result ≡ x) × (result < 256) }
@@ -48,4 +51,11 @@ pub fn hash_line(line: &[u8], spans: &[usize]) -> usize
     }
     // The last byte reaches the upper bits only when it is mixed once more.
     mix(h, 0) / 1048576 % 4096
+}
+
+// The hash of two texts.
+pub fn hash_two(a: &[u8], b: &[u8]) -> usize
+    ensures { (result ≡ hash_two a.now b.now) × (result < hashes) }
+{
+    mix(mix_text(mix_text(0, a), b), 0) / 1048576 % 4096
 }

@@ -1,9 +1,12 @@
-// A search over fixed-width lines in linear time: lines with one hash are chained, each to the nearest before it.
+// Searches in linear time. Fixed-width lines with one hash are chained, each to the nearest before it; numbers of any kind with one hash are chained ahead, each to the next.
 #![tactic(auto)]
 
+mod ahead;
 mod hash;
 mod index;
 mod search;
 
+pub use ahead::{clear_ahead, enter_ahead, link_of};
+pub use hash::{HASHES, hash_line, hash_two};
 pub use index::{Heads, Links, index_lines};
-pub use search::{all_different, is_member, is_repeated};
+pub use search::{all_different, is_member, is_repeated, last_agreeing};

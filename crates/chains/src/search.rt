@@ -1,17 +1,13 @@
 ghost use Rattle.std.specs.Prelude.{◌≡◌, ◌<◌};
 ghost use Rattle.lines.specs.Below.{some_below};
+ghost use Rattle.chains.specs.Last.{last_below};
 ghost use Rattle.chains.specs.Index.{Ruled, Asked, Linked, Indexed, agrees_with, member_of, repeated_at, all_different};
 ghost use Rattle.chains.specs.Chain.{Walk};
 
+use crate::ahead::link_of;
 use crate::hash::hash_line;
 use crate::index::{Heads, Links, index_lines};
 use lines::{Layout, agree_across, line_of};
-
-fn link_of(x: u16) -> usize
-    ensures { result ≡ x }
-{
-    x as usize
-}
 
 // Whether a line below `start` agrees with the line `other`. Only lines of the chain from `start` are looked at.
 fn walk(
@@ -35,6 +31,50 @@ fn walk(
         link = link_of(prev[j]);
     }
     false
+}
+
+// The last line below `start` that agrees with the line `other`, counted from 1; 0 where none does. Only lines of the chain from `start` are looked at.
+fn walk_to_last(
+    layout: Layout,
+    file: &[u8],
+    spans: &[usize],
+    prev: &Links,
+    start: usize,
+    ts: &[usize],
+    other: &[u8],
+) -> usize
+    requires { Walk layout file.now spans.now start prev.now ts.now other.now }
+    ensures { result ≡ last_below start (agrees_with layout file.now spans.now ts.now other.now) }
+{
+    let mut link = start;
+    while link != 0 {
+        let j = link - 1;
+        if agree_across(spans, line_of(layout, file, j), ts, other) {
+            return link;
+        }
+        link = link_of(prev[j]);
+    }
+    0
+}
+
+// The last of n indexed lines that agrees, by its spans, with the line `other` by the spans ts, counted from 1; 0 where none does.
+pub fn last_agreeing(
+    layout: Layout,
+    file: &[u8],
+    spans: &[usize],
+    n: usize,
+    heads: &Heads,
+    prev: &Links,
+    ts: &[usize],
+    other: &[u8],
+) -> usize
+    requires ruled { Ruled layout file.now spans.now n }
+    requires indexed { Indexed layout file.now spans.now n heads.now prev.now }
+    requires asked { Asked spans.now ts.now other.now }
+    ensures { result ≡ last_below n (agrees_with layout file.now spans.now ts.now other.now) }
+{
+    let h = hash_line(other, ts);
+    walk_to_last(layout, file, spans, prev, link_of(heads[h]), ts, other)
 }
 
 // Whether one of n indexed lines agrees, by its spans, with the line `other` by the spans ts.

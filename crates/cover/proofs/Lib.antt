@@ -1,1 +1,3 @@
 pub mod LeaseCoverLaws
+pub mod PeriodLaws
+pub mod PlateCoverLaws

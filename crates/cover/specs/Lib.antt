@@ -7,3 +7,11 @@ pub mod Worked
 pub mod FirstCover
 pub mod FirstCoverLaws
 pub mod NoEnd
+pub mod UntilLaws
+pub mod Rising
+pub mod RisingLaws
+pub mod Pans
+pub mod PansLaws
+pub mod Plates
+pub mod PlatesLaws
+pub mod PlateChainLaws

@@ -22,7 +22,7 @@ pub enum Cover {
 }
 
 // Whether start ≤ moment < end.
-fn in_time(period: &[u8], moment: &[u8]) -> bool
+pub fn in_time(period: &[u8], moment: &[u8]) -> bool
     requires { (length period.now ≡ width) × (length moment.now ≡ 14) }
     ensures { result ≡ in_time moment.now period.now }
 {
@@ -33,7 +33,7 @@ fn in_time(period: &[u8], moment: &[u8]) -> bool
 }
 
 // Whether the period has this plate and nation.
-fn is_leased(period: &[u8], plate: &[u8], nation: &[u8]) -> bool
+pub fn is_leased(period: &[u8], plate: &[u8], nation: &[u8]) -> bool
     requires { length period.now ≡ width }
     ensures { result ≡ leased_to plate.now nation.now period.now }
 {
@@ -81,7 +81,7 @@ fn first_covering(
 }
 
 // Where the body of agreement i stands, as its entry says.
-fn body_place(book: &[u8], i: usize) -> usize
+pub fn body_place(book: &[u8], i: usize) -> usize
     requires { (book_sound width book.now ≡ true) × (i < agreements book.now) }
     ensures { result ≡ body_place width book.now i }
 {

@@ -2,5 +2,10 @@
 #![tactic(auto)]
 
 mod cover;
+mod pans;
+mod plates;
+mod rising;
 
 pub use cover::{Cover, Place, cover_at};
+pub use pans::index_pans;
+pub use plates::{PLATE_LINKS, cover_by, index_plates};

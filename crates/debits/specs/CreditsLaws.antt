@@ -62,18 +62,6 @@ module _ (debits : List ℕ) (credits : ℕ → List ℕ) (reaches : ℕ → Boo
     pub agreeing : agrees debits (credits k) (place k) ≡ true
     pub next : at (suc k) ≡ set (at k) (place k) 1
 
-  pub accepted_is : (k : ℕ) → accepted k ≡ true → Accepted k
-  unfolding credit_accepted taken_at place_at marks_after free_for
-  accepted_is k e =
-      let reach = and_left (reaches k) (took k) e in
-      let t = took_some debits (at k) (credits k) (and_right (reaches k) (took k) e) in
-      record {
-        within = rw (after_length k) at t.0;
-        unmarked_then = and_left (unmarked (at k) (place k)) (agrees debits (credits k) (place k)) t.1;
-        agreeing = and_right (unmarked (at k) (place k)) (agrees debits (credits k) (place k)) t.1;
-        next = rw reach (marks_then_lem debits (at k) (credits k));
-      }
-
   -- a line that is not accepted leaves the marks as they are
   pub skipped_is : (k : ℕ) → accepted k ≡ false → at (suc k) ≡ at k
   unfolding credit_accepted taken_at marks_after
@@ -82,46 +70,3 @@ module _ (debits : List ℕ) (credits : ℕ → List ℕ) (reaches : ℕ → Boo
       go : (b : Bool) → (b && took k) ≡ false → cond b (marks_then (at k) (taken debits (at k) (credits k))) (at k) ≡ at k
       go true e = (took_none debits (at k) (credits k) e).0
       go false e = refl
-
-  -- a refused credit found no free debit
-  pub refused_is : (k : ℕ) → refused k ≡ true → (j : ℕ) → j < length marks → free_for debits (at k) (credits k) j ≡ false
-  unfolding credit_refused taken_at
-  refused_is k e j h =
-      let none = not-true (took k) (and_right (reaches k) (not (took k)) e) in
-      (took_none debits (at k) (credits k) none).1 j (rw (after_length k) h)
-
-  -- after line k a debit is unmarked where it was and is not the one that line k took
-  taken_apart : (k : ℕ) → accepted k ≡ true → (j : ℕ) → unmarked (at (suc k)) j ≡ (unmarked (at k) j && not (eqb j (place k)))
-  taken_apart k a j =
-      let t = accepted_is k a in
-      rw t.next (unmarked_set (at k) (place k) (rw (after_length k) t.within) j)
-
-  unmarked_before : (k j : ℕ) → unmarked (at (suc k)) j ≡ true → unmarked (at k) j ≡ true
-  unmarked_before k j e = go (accepted k) refl
-    where
-      go : (b : Bool) → accepted k ≡ b → unmarked (at k) j ≡ true
-      go true a = and_left (unmarked (at k) j) (not (eqb j (place k))) (sym (taken_apart k a j) ∙ e)
-      go false a = ap (λ (m : List ℕ). unmarked m j) (sym (skipped_is k a)) ∙ e
-
-  -- a debit that is unmarked before line k was unmarked before each line before it
-  pub unmarked_earlier : (i k : ℕ) → i ≤ k → (j : ℕ) → unmarked (at k) j ≡ true → unmarked (at i) j ≡ true
-  unmarked_earlier i zero h j e = let z : i ≡ 0 = omega arith in rw z e
-  unmarked_earlier i (suc k) h j e =
-      ⊎_elim
-      (λ s. rw s e)
-      (λ l. unmarked_earlier i k (omega arith) j (unmarked_before k j e))
-      (eq-or-lt_of_le h)
-
-  -- a later accepted credit takes another debit
-  taken_once : (i k : ℕ) → i < k → accepted i ≡ true → accepted k ≡ true → place i ≡ place k → ⊥
-  taken_once i k h a b e =
-      let u = unmarked_earlier (suc i) k h (place k) (accepted_is k b).unmarked_then in
-      let v = taken_apart i a (place k) ∙ and_false_right (unmarked (at i) (place k)) (not (eqb (place k) (place i))) (ap not (eq-eqb (place k) (place i) (sym e))) in
-      true≢false (sym u ∙ v)
-
-  -- two accepted credits take two debits
-  pub places_apart : (i k : ℕ) → accepted i ≡ true → accepted k ≡ true → place i ≡ place k → i ≡ k
-  places_apart i k a b e =
-      let l : i < k → ⊥ = λ h. taken_once i k h a b e in
-      let r : k < i → ⊥ = λ h. taken_once k i h b a (sym e) in
-      omega arith

@@ -2,7 +2,9 @@
 #![tactic(auto)]
 
 mod form;
+mod open;
 mod taking;
 
 pub use form::{DEBITS, debits_sound};
+pub use open::{index_open, take_open};
 pub use taking::{Taken, take_debit};

@@ -14,7 +14,7 @@ pub enum Taken {
 
 // Whether debit j is unmarked and agrees with the credit. The mark comes first: it is one byte, the columns are seventy.
 #[tactic(auto, unfolding(crate::specs::Taking::free_for, crate::specs::Taking::unmarked, crate::specs::Taking::agrees))]
-fn free_for(debits: &[u8], marks: &[u8], credit: &[u8], j: usize) -> bool
+pub fn free_for(debits: &[u8], marks: &[u8], credit: &[u8], j: usize) -> bool
     requires { Lent debits.now marks.now credit.now × (j < length marks.now) }
     ensures { result ≡ free_for debits.now marks.now credit.now j }
 {

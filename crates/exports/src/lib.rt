@@ -1,7 +1,7 @@
 // Functions on numbers and bytes for programs in other languages: the call, and the reader of a TIC. A slice is a pointer and then a length.
 #![tactic(auto)]
 
-mod judging;
+mod calls;
 mod numbers;
-mod reading;
+mod readings;
 mod rewriting;

@@ -1,7 +1,10 @@
 -- The laws of character classes: how a byte is shown to be of one, and what it shows. Assumes nothing.
-use Rattle.std.specs.Prelude.{◌≡◌, true, false, ◌&&◌, List, ℕ, ◌+◌, ◌≤◌, ◌<◌, length, get_or, take, drop, leb, ltb}
-use Rattle.std.proofs.Common.{ap, ◌∙◌, arith, length-take, length-drop, get_or-take, get_or-drop, le-leb, leb-true, lt-ltb}
+use Rattle.std.specs.Prelude.{◌≡◌, refl, Bool, true, false, ◌&&◌, List, ℕ, ◌+◌, ◌≤◌, ◌<◌, length, get_or, take, drop, eqb, leb, ltb}
+use Rattle.std.proofs.Math.Path.{sym}
+use Rattle.std.proofs.Common.{ap, ◌∙◌, arith, length-take, length-drop, get_or-take, get_or-drop, le-leb, leb-true, leb-false, lt-ltb, eq-eqb, ne_eqb}
 use Rattle.std.proofs.lemmas.Bool.{lt-leb}
+use Rattle.lines.specs.Below.{all_below, first_below}
+use Rattle.lines.specs.BelowSame.{all_same, first_same}
 use Rattle.lines.specs.BelowLaws.{all_at, all_each, first_le}
 use Rattle.lines.specs.BoolLaws.{and_true, and_left, and_right, and_false_left, and_false_right}
 use Rattle.lines.specs.Class.{is_digit, is_of, byte_is, all_bytes, all_of, place_of, filled_to, padded_with, filled_with}
@@ -23,9 +26,28 @@ module _ (low high b : ℕ) where
   pub between_rest : low ≤ b → (leb low b && leb b high) ≡ leb b high
   between_rest h = rw (le-leb low b h)
 
+-- a range of one byte
+pub between_only : (x b : ℕ) → (leb x b && leb b x) ≡ eqb b x
+between_only x b = go (leb x b) refl (leb b x) refl
+  where
+    go : (t : Bool) → leb x b ≡ t → (u : Bool) → leb b x ≡ u → (t && u) ≡ eqb b x
+    go true e true f = sym (eq-eqb b x (omega (arith, leb-true x b e, leb-true b x f)))
+    go true e false f = sym (ne_eqb b x (λ z. omega (arith, leb-false b x f)))
+    go false e u f = sym (ne_eqb b x (λ z. omega (arith, leb-false x b e)))
+
 pub digit_is : (b : ℕ) → is_of Digit b ≡ true → (48 ≤ b) × (b ≤ 57)
 unfolding is_of is_digit
 digit_is b e = between_is 48 57 b e
+
+-- bytes of a class that are named in another way
+module _ (c : Class) (p : ℕ → Bool) (each : (b : ℕ) → p b ≡ is_of c b) (s : List ℕ) where
+  pub all_of_by : all_of c s ≡ all_below (length s) (byte_is p s)
+  unfolding all_of all_bytes byte_is
+  all_of_by = sym (all_same (byte_is p s) (byte_is (is_of c) s) (length s) (λ i h. each (get_or s i 0)))
+
+  pub place_of_by : place_of c s ≡ first_below (length s) (byte_is p s)
+  unfolding place_of byte_is
+  place_of_by = sym (first_same (byte_is p s) (byte_is (is_of c) s) (length s) (λ i h. each (get_or s i 0)))
 
 -- a byte of a text of one class
 pub all_of_at : (c : Class) (s : List ℕ) → all_of c s ≡ true → (i : ℕ) → i < length s → is_of c (get_or s i 0) ≡ true

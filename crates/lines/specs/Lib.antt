@@ -7,10 +7,13 @@ pub mod FirstOf
 pub mod Columns
 pub mod Class
 pub mod ClassLaws
+pub mod Ranges
 pub mod Number
 pub mod NumberLaws
 pub mod Same
 pub mod SameLaws
+pub mod Word
+pub mod WordLaws
 pub mod Spans
 pub mod Splice
 pub mod SpliceLaws

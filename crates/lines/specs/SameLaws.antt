@@ -29,6 +29,14 @@ same_is a b e =
     ext_get_or 0 a b l
     (λ i h. eqb-true (get_or a i 0) (get_or b i 0) (not-false (eqb (get_or a i 0) (get_or b i 0)) (some_none (differ_at a b) (length a) (nowhere a b d) i h)))
 
+-- texts that differ at a place are not the same
+pub apart : (a b : List ℕ) (i : ℕ) → (get_or a i 0 ≡ get_or b i 0 → ⊥) → same a b ≡ false
+apart a b i ne = go (same a b) refl
+  where
+    go : (t : Bool) → same a b ≡ t → t ≡ false
+    go true s = absurd (ne (ap (λ (l : List ℕ). get_or l i 0) (same_is a b s)))
+    go false s = refl
+
 -- equal lists are the same texts
 self : (s : List ℕ) → same s s ≡ true
 unfolding same first_difference differ_at

@@ -1,5 +1,6 @@
-ghost use Rattle.std.specs.Prelude.{◌≡◌};
-ghost use Rattle.lines.specs.Class.{is_digit, is_capital, is_of, all_of, place_of, filled_with};
+ghost use Rattle.std.specs.Prelude.{◌&&◌, ◌≡◌, ℕ};
+ghost use Rattle.lines.specs.Class.{is_of, all_of, place_of, filled_with};
+ghost use Rattle.lines.specs.Ranges.{between, in_ranges};
 
 // A class of characters.
 #[derive(Clone, Copy)]
@@ -10,66 +11,77 @@ pub enum Class {
     Only(u8),
 }
 
-fn is_digit(b: u8) -> bool
-    ensures { result ≡ is_digit b }
+// The bytes of a class as two ranges, each its first and its last byte, so that a loop does not ask at each byte for the class. A class of one range has it twice.
+#[derive(Clone, Copy)]
+struct Ranges(u8, u8, u8, u8);
+
+fn ranges_of(class: Class) -> Ranges
+    ensures { (b : ℕ) → in_ranges result b ≡ is_of class b }
 {
-    if b < 48 {
-        return false;
+    match class {
+        Class::Digit => Ranges(48, 57, 48, 57),
+        Class::Capital => Ranges(65, 90, 65, 90),
+        Class::DigitOrCapital => Ranges(48, 57, 65, 90),
+        Class::Only(x) => Ranges(x, x, x, x),
     }
-    b <= 57
 }
 
-fn is_capital(b: u8) -> bool
-    ensures { result ≡ is_capital b }
+fn is_between(low: u8, high: u8, b: u8) -> bool
+    ensures { result ≡ between low high b }
 {
-    if b < 65 {
+    if b < low {
         return false;
     }
-    b <= 90
+    b <= high
 }
 
-fn is_digit_or_capital(b: u8) -> bool
-    ensures { result ≡ is_of Class.DigitOrCapital b }
+fn is_in(ranges: Ranges, b: u8) -> bool
+    ensures { result ≡ in_ranges ranges b }
 {
-    if is_digit(b) {
+    if is_between(ranges.0, ranges.1, b) {
         return true;
     }
-    is_capital(b)
+    is_between(ranges.2, ranges.3, b)
 }
 
 // Whether a byte is of the class.
 pub fn is_of(class: Class, b: u8) -> bool
     ensures { result ≡ is_of class b }
 {
-    match class {
-        Class::Digit => is_digit(b),
-        Class::Capital => is_capital(b),
-        Class::DigitOrCapital => is_digit_or_capital(b),
-        Class::Only(x) => b == x,
-    }
+    is_in(ranges_of(class), b)
 }
 
-// Whether every byte is of the class.
+fn both(a: bool, b: bool) -> bool
+    ensures { result ≡ (a && b) }
+{
+    if a {
+        return b;
+    }
+    false
+}
+
+// Whether every byte is of the class. It does not stop at one that is not, so that many bytes are tested at a time.
 pub fn all_of(class: Class, s: &[u8]) -> bool
     ensures { result ≡ all_of class s.now }
 {
+    let ranges = ranges_of(class);
+    let mut all = true;
     let mut i = 0;
     while i < s.len() {
-        if !is_of(class, s[i]) {
-            return false;
-        }
+        all = both(all, is_in(ranges, s[i]));
         i += 1;
     }
-    true
+    all
 }
 
 // The first place with a byte of the class, and the length where there is none.
 pub fn place_of(class: Class, s: &[u8]) -> usize
     ensures { result ≡ place_of class s.now }
 {
+    let ranges = ranges_of(class);
     let mut i = 0;
     while i < s.len() {
-        if is_of(class, s[i]) {
+        if is_in(ranges, s[i]) {
             return i;
         }
         i += 1;

@@ -9,6 +9,7 @@ mod put;
 mod rows;
 mod same;
 mod spans;
+mod word;
 
 pub use class::{Class, all_of, filled_with, is_of, place_of};
 pub use columns::{Columns, field};
@@ -18,3 +19,4 @@ pub use put::{put_bytes, put_digits, put_run};
 pub use rows::{Layout, Lines, footer_of, framed_lines, header_of, line_count, line_of};
 pub use same::{is_before, is_same};
 pub use spans::{agree_across, agree_on};
+pub use word::word_at;

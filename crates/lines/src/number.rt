@@ -2,18 +2,13 @@ ghost use Rattle.std.specs.Prelude.{true, ◌≡◌, ◌≤◌, length};
 ghost use Rattle.lines.specs.Number.{all_digits, number_of, read_digits, value_of, BigEndian};
 
 use crate::class::{Class, is_of};
+use crate::word::wide;
 
 // What a field that should be digits holds.
 #[derive(Clone, Copy)]
 pub enum Digits {
     Value(u64),
     NotDigits,
-}
-
-fn wide(x: u8) -> u64
-    ensures { result ≡ x }
-{
-    x as u64
 }
 
 // Reads a field of at most 15 digits.
@@ -50,7 +45,13 @@ pub fn number_of(s: &[u8]) -> u64
     requires { (length s.now ≤ 15) × (all_digits s.now ≡ true) }
     ensures { result ≡ number_of s.now }
 {
-    value_of(s)
+    let mut v: u64 = 0;
+    let mut i = 0;
+    while i < s.len() {
+        v = v * 10 + (wide(s[i]) - 48);
+        i += 1;
+    }
+    v
 }
 
 // Reads a big-endian number of at most four bytes.

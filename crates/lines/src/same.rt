@@ -1,5 +1,8 @@
 ghost use Rattle.std.specs.Prelude.{◌≡◌, ◌≤◌, length};
 ghost use Rattle.lines.specs.Same.{first_difference, same, before};
+ghost use Rattle.lines.specs.Word.{Decides};
+
+use crate::word::word_at;
 
 // The first place where the texts differ, and their length where they do not.
 fn first_difference(a: &[u8], b: &[u8]) -> usize
@@ -16,6 +19,22 @@ fn first_difference(a: &[u8], b: &[u8]) -> usize
     i
 }
 
+// The place of the words that decide how texts of one length compare: the first that differ, else the last.
+// The last word overlaps the one before it where the length is no multiple of eight.
+fn deciding_word(a: &[u8], b: &[u8]) -> usize
+    requires { (length a.now ≡ length b.now) × (8 ≤ length a.now) }
+    ensures { Decides a.now b.now result }
+{
+    let mut i = 0;
+    while a.len() - i >= 8 {
+        if word_at(a, i) != word_at(b, i) {
+            return i;
+        }
+        i += 8;
+    }
+    a.len() - 8
+}
+
 // Whether the texts are of one length and nowhere different.
 pub fn is_same(a: &[u8], b: &[u8]) -> bool
     ensures { result ≡ same a.now b.now }
@@ -23,7 +42,11 @@ pub fn is_same(a: &[u8], b: &[u8]) -> bool
     if a.len() != b.len() {
         return false;
     }
-    first_difference(a, b) == a.len()
+    if a.len() < 8 {
+        return first_difference(a, b) == a.len();
+    }
+    let at = deciding_word(a, b);
+    word_at(a, at) == word_at(b, at)
 }
 
 // Whether a, as written, stands before b of the same length.
@@ -31,9 +54,13 @@ pub fn is_before(a: &[u8], b: &[u8]) -> bool
     requires { length a.now ≡ length b.now }
     ensures { result ≡ before a.now b.now }
 {
-    let i = first_difference(a, b);
-    if i >= a.len() {
-        return false;
+    if a.len() < 8 {
+        let i = first_difference(a, b);
+        if i >= a.len() {
+            return false;
+        }
+        return a[i] < b[i];
     }
-    a[i] < b[i]
+    let at = deciding_word(a, b);
+    word_at(a, at) < word_at(b, at)
 }

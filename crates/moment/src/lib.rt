@@ -4,10 +4,11 @@
 ghost use Rattle.std.specs.Prelude.{◌≡◌, true, ◌≤◌, ◌<◌, length};
 ghost use Rattle.lines.specs.Columns.{field_of};
 ghost use Rattle.lines.specs.Number.{all_digits, number_of};
+ghost use Rattle.lines.specs.Same.{before};
 ghost use Rattle.moment.specs.Calendar.{is_leap, days_in};
 ghost use Rattle.moment.specs.Moment.{Numbered, date_fault, time_fault, check_date, check_moment, is_real, is_date, is_moment};
 
-use lines::{Class, Columns, all_of, field, number_of};
+use lines::{Class, Columns, all_of, field, number_of, word_at};
 
 // A part of a moment, or a character that is no digit.
 #[derive(Clone, Copy)]
@@ -42,7 +43,7 @@ const MINUTE: Columns = Columns { from: 11, to: 12 };
 const SECOND: Columns = Columns { from: 13, to: 14 };
 
 // The days of each month, in an ordinary year and in a leap year.
-const MONTH_LENGTHS: [[u64; 12]; 2] = [
+const MONTH_LENGTHS: [[u8; 12]; 2] = [
     [31, 28, 31, 30, 31, 30, 31, 31, 30, 31, 30, 31],
     [31, 29, 31, 30, 31, 30, 31, 31, 30, 31, 30, 31],
 ];
@@ -63,12 +64,18 @@ fn leap(year: u64) -> usize
     1
 }
 
+fn wide(x: u8) -> u64
+    ensures { result ≡ x }
+{
+    x as u64
+}
+
 // How many days a month from 1 to 12 has.
 fn days_in(year: u64, month: usize) -> u64
     requires { (1 ≤ month) × (month ≤ 12) }
     ensures { result ≡ days_in year month }
 {
-    MONTH_LENGTHS[leap(year)][month - 1]
+    wide(MONTH_LENGTHS[leap(year)][month - 1])
 }
 
 // The number that some columns of a text of digits write.
@@ -172,4 +179,17 @@ pub fn is_moment(s: &[u8]) -> bool
     ensures { result ≡ is_moment s.now }
 {
     is_real(check_moment(s))
+}
+
+// Whether a moment, as written, stands before another. Fourteen bytes are two words that share two bytes.
+pub fn is_earlier(a: &[u8], b: &[u8]) -> bool
+    requires { (length a.now ≡ 14) × (length b.now ≡ 14) }
+    ensures { result ≡ before a.now b.now }
+{
+    let first = word_at(a, 0);
+    let other = word_at(b, 0);
+    if first != other {
+        return first < other;
+    }
+    word_at(a, 6) < word_at(b, 6)
 }

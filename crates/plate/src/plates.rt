@@ -43,7 +43,10 @@ fn two_of(class: Class, nation: &[u8]) -> bool
 fn is_filled(plate: &[u8]) -> bool
     ensures { result ≡ is_filled plate.now }
 {
-    place_of(Class::Only(32), plate) > 0
+    if plate.len() == 0 {
+        return false;
+    }
+    plate[0] != 32
 }
 
 // What the nation beside a plate on a line is made of.

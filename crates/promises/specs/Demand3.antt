@@ -14,8 +14,8 @@ use Rattle.tif.specs.declared.side.Side.TheVariants.{Credit, Debit}
 use Rattle.debits.specs.Assignment.{Assigned, Exactly}
 use Rattle.debits.specs.Credits.{credit_accepted, place_at}
 use Rattle.debits.specs.CreditsLaws.{after_zero, after_length}
-use Rattle.debits.specs.Demand3.{demand_3, demand_3_accepted}
-use Rattle.debits.specs.Demand3Laws.{accepted_or_refused}
+use Rattle.debits.proofs.Demand3.{demand_3, demand_3_accepted}
+use Rattle.debits.proofs.Demand3Laws.{accepted_or_refused}
 use Rattle.debits.specs.Taking.{agrees, took_debit}
 use Rattle.verdicts.specs.LineTests.{test_line}
 use Rattle.verdicts.specs.Record.{record_of}

@@ -16,7 +16,8 @@ use Rattle.cover.specs.declared.cover.Cover.{Cover}
 use Rattle.cover.specs.declared.cover.Cover.TheVariants.{At, Nothing}
 use Rattle.debits.specs.Assignment.{Exactly}
 use Rattle.debits.specs.Credits.{marks_after, taken_at, place_at, credit_accepted, credit_refused}
-use Rattle.debits.specs.CreditsLaws.{Accepted, accepted_is, skipped_is, unmarked_earlier, after_length}
+use Rattle.debits.specs.CreditsLaws.{Accepted, skipped_is, after_length}
+use Rattle.debits.proofs.AcceptedLaws.{accepted_is, unmarked_earlier}
 use Rattle.debits.specs.Taking.{unmarked, place_taken, took_debit}
 use Rattle.debits.specs.TakingLaws.{taken_some}
 use Rattle.debits.specs.declared.taking.Taken.{Taken}

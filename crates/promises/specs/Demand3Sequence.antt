@@ -14,9 +14,10 @@ use Rattle.lines.specs.Below.{join_below}
 use Rattle.lines.specs.BelowSame.{join_same}
 use Rattle.tif.specs.Body.{line_at}
 use Rattle.debits.specs.Credits.{marks_after, place_at, credit_accepted}
-use Rattle.debits.specs.CreditsLaws.{accepted_is, skipped_is, after_length}
+use Rattle.debits.specs.CreditsLaws.{skipped_is, after_length}
+use Rattle.debits.proofs.AcceptedLaws.{accepted_is}
 use Rattle.debits.specs.Sequence.{Open, Step, judged, added, open_after, place_if_taken, places_of, places_taken, NoneTwice}
-use Rattle.debits.specs.SequenceLaws.{none_taken_twice}
+use Rattle.debits.proofs.SequenceLaws.{none_taken_twice}
 use Rattle.debits.specs.Taking.{took_debit}
 use Rattle.debits.specs.declared.taking.Taken.{Taken}
 use Rattle.verdicts.specs.declared.record.Record.{Record}

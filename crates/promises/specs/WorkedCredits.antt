@@ -1,5 +1,5 @@
 -- Three CRE files on two equal debits, computed: each file has one credit that agrees with both. Assumes nothing.
-use Rattle.std.specs.Prelude.{◌≡◌, refl, List, [], ◌∷◌, ◌++◌, ℕ, length, replicate}
+use Rattle.std.specs.Prelude.{◌≡◌, refl, List, [], ◌∷◌, ◌++◌, ℕ, replicate}
 use Rattle.std.proofs.Common.{◌∙◌, arith}
 use Rattle.lines.specs.Below.{all_below, some_below, first_below, table_below, join_below, sum_below}
 use Rattle.lines.specs.Class.{is_digit, is_capital, is_of, byte_is, all_bytes, all_of, place_of, padded_with}

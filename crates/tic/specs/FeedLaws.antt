@@ -8,7 +8,7 @@ use native.Mathlib.Omega.{arith}
 use Rattle.std.proofs.Math.ListN.{length, get_or-append}
 use Rattle.std.proofs.lemmas.List.{get_or_at}
 use Rattle.std.proofs.Math.Seq.{length-take-le}
-use borrow.Author.Tests.{eqb-true, eq-eqb, not-false}
+use borrow.Author.Tests.{eqb-true, eq-eqb}
 use Rattle.lines.specs.Below.{first_below}
 use Rattle.lines.specs.BelowLaws.{first_hit, first_before, first_found, some_each}
 use Rattle.lines.specs.Class.{is_of, byte_is, all_bytes, place_of}

@@ -13,6 +13,7 @@ pub enum Listed {
     Unreadable(TicFault),
 }
 
+#[tactic(auto, unfolding(crate::specs::Listed::listed_place, lines::specs::FirstOf::first_of))]
 fn listed_place(listed: usize, k: usize) -> Listed
     requires { listed ≤ most_lines }
     ensures { result ≡ listed_place listed k }
@@ -28,6 +29,7 @@ fn listed_place(listed: usize, k: usize) -> Listed
 }
 
 // Listed line k, counted from 1.
+#[tactic(auto, unfolding(crate::specs::Listed::listed_line))]
 pub fn listed_line(tic: &[u8], k: usize) -> Listed
     ensures { result ≡ listed_line tic.now k }
 {

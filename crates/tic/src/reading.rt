@@ -8,6 +8,7 @@ use tic_parts::{
 use tic_text::{TIC, TicFault, TicReading, TicValues};
 
 // Reads a TIC: T1 to T5, or its values.
+#[tactic(auto, unfolding(tic_parts::specs::Reading::read_tic, lines::specs::FirstOf::first_of))]
 pub fn read_tic(tic: &[u8]) -> TicReading
     ensures { result ≡ read_tic tic.now }
 {

@@ -1,5 +1,5 @@
 -- Reading a TIC: T1 length or line feeds, T2 header form, T3 counts, T4 a listed line, T5 footer, in this order, or its values. Assumes nothing.
-use Rattle.std.specs.Prelude.{Bool, false, not, ◌&&◌, ◌||◌, List, [], ◌∷◌, ℕ, ◌+◌, length, eqb, leb, ltb}
+use Rattle.std.specs.Prelude.{Bool, false, not, ◌&&◌, ◌||◌, List, [], ◌∷◌, ℕ, ◌+◌, eqb, leb, ltb}
 use Rattle.lines.specs.Below.{all_below, sum_below}
 use Rattle.lines.specs.Class.{all_of}
 use Rattle.lines.specs.Columns.{col}

@@ -11,6 +11,7 @@ use passage::GROSS_AMOUNT;
 use tic_text::{CODE, TIC};
 
 // Whether a listed line begins as one, and has an amount and a code.
+#[tactic(auto, unfolding(crate::specs::Reading::listed_formed, tif::specs::Every::every, lines::specs::Number::all_digits))]
 fn listed_formed(row: &[u8]) -> bool
     requires { length row.now ≡ 812 }
     ensures { result ≡ listed_formed row.now }
@@ -25,6 +26,7 @@ fn listed_formed(row: &[u8]) -> bool
 }
 
 // Whether each of the n listed lines does (T4).
+#[tactic(auto, using(lines::specs::BelowLaws::all_zero, lines::specs::BelowLaws::all_more, lines::specs::RowsLaws::line_ends, lines::specs::RowsLaws::line_length), unfolding(crate::specs::Reading::lines_formed, crate::specs::Reading::listed_formed_at))]
 pub fn lines_formed(tic: &[u8], n: usize) -> bool
     requires { file_length tic_layout n ≤ length tic.now }
     ensures { result ≡ lines_formed tic.now n }
@@ -48,6 +50,7 @@ fn row_amount(row: &[u8]) -> Gross
 }
 
 // The exact sum of the amounts of the n listed lines.
+#[tactic(auto, using(lines::specs::BelowLaws::sum_zero, lines::specs::BelowLaws::sum_suc, lines::specs::RowsLaws::line_ends), unfolding(crate::specs::Reading::listed_sum, crate::specs::Reading::listed_amount))]
 pub fn listed_sum(tic: &[u8], n: usize) -> Gross
     requires { Lined tic.now n }
     ensures { result.0 ≡ listed_sum tic.now n }

@@ -8,6 +8,7 @@ use tic_text::{ACCEPTED_AGAIN, REJECTED_AGAIN, TicHead};
 use tif::is_sided;
 
 // Whether the acceptance is one, and has the counts and the side that it asks for.
+#[tactic(auto, unfolding(crate::specs::Reading::acceptance_fits, lines::specs::FirstOf::first_of))]
 fn acceptance_fits(head: TicHead) -> bool
     ensures { result ≡ acceptance_fits head }
 {
@@ -39,6 +40,7 @@ fn all_zero(accepted: u64, rejected: u64) -> bool
 }
 
 // Whether the counts of the header agree with the lines listed and with the acceptance.
+#[tactic(auto, unfolding(crate::specs::Reading::head_agrees, tif::specs::Every::every))]
 fn head_agrees(head: TicHead, n: usize) -> bool
     requires { n ≤ most_lines }
     ensures { result ≡ head_agrees head n }
@@ -58,6 +60,7 @@ fn head_agrees(head: TicHead, n: usize) -> bool
 }
 
 // Whether the counts agree with each other too (T3).
+#[tactic(auto, unfolding(crate::specs::Reading::counts_agree, tif::specs::Every::every))]
 pub fn counts_agree(h: &[u8], head: TicHead, n: usize) -> bool
     requires { Counting h.now head n }
     ensures { result ≡ counts_agree h.now n }

@@ -5,6 +5,7 @@ use lines::{Class, Gross, all_of, field, number_of};
 use tic_text::{ACCEPTED_SUM, FOOTER_FILLER, REJECTED_SUM, TicHead, TicSums};
 
 // Whether the footer begins as one, and has sums and a filler.
+#[tactic(auto, unfolding(crate::specs::Reading::footer_formed, tif::specs::Every::every, lines::specs::Number::all_digits))]
 pub fn footer_formed(f: &[u8]) -> bool
     requires { length f.now ≡ 128 }
     ensures { result ≡ footer_formed f.now }
@@ -32,6 +33,7 @@ pub fn sums_of(f: &[u8]) -> TicSums
 }
 
 // Whether the sums are those that the header and the listed lines determine.
+#[tactic(auto, unfolding(crate::specs::Reading::sums_fit, tif::specs::Every::every))]
 pub fn sums_fit(head: TicHead, sums: TicSums, listed: Gross) -> bool
     ensures { result ≡ sums_fit head sums listed.0 }
 {

@@ -12,6 +12,7 @@ use tic_text::{
 use tif::{Side, is_actor, is_file_stem};
 
 // Whether the header begins as one and all its columns that name the TIF name one real TIF.
+#[tactic(auto, unfolding(crate::specs::Reading::names_one_tif, tif::specs::Every::every))]
 fn names_one_tif(h: &[u8]) -> bool
     requires { length h.now ≡ 196 }
     ensures { result ≡ names_one_tif h.now }
@@ -38,6 +39,7 @@ fn names_one_tif(h: &[u8]) -> bool
 }
 
 // Whether the text is CRE, DEB or 000.
+#[tactic(auto, unfolding(crate::specs::Reading::is_side))]
 fn is_side(s: &[u8]) -> bool
     ensures { result ≡ is_side s.now }
 {
@@ -51,6 +53,7 @@ fn is_side(s: &[u8]) -> bool
 }
 
 // Whether the header's other texts are of the right form.
+#[tactic(auto, unfolding(crate::specs::Reading::header_formed, tif::specs::Every::every))]
 fn header_formed(h: &[u8]) -> bool
     requires { length h.now ≡ 196 }
     ensures { result ≡ header_formed h.now }
@@ -74,6 +77,7 @@ fn header_formed(h: &[u8]) -> bool
 }
 
 // Whether counts and acceptance are digits.
+#[tactic(auto, unfolding(crate::specs::Reading::header_digits, tif::specs::Every::every, lines::specs::Number::all_digits))]
 fn header_digits(h: &[u8]) -> bool
     requires { length h.now ≡ 196 }
     ensures { result ≡ header_digits h.now }
@@ -94,6 +98,7 @@ fn header_digits(h: &[u8]) -> bool
 }
 
 // Whether no column of the header is out of form (T2).
+#[tactic(auto, unfolding(crate::specs::Reading::header_sound, tif::specs::Every::every))]
 pub fn header_sound(h: &[u8]) -> bool
     requires { length h.now ≡ 196 }
     ensures { result ≡ header_sound h.now }
@@ -108,6 +113,7 @@ pub fn header_sound(h: &[u8]) -> bool
 }
 
 // The side that the text names, and neither where it is another text.
+#[tactic(auto, unfolding(crate::specs::Reading::side_in, lines::specs::FirstOf::first_of))]
 fn side_in(s: &[u8]) -> Side
     ensures { result ≡ side_in s.now }
 {

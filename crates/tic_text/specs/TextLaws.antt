@@ -7,7 +7,7 @@ use Rattle.lines.specs.NumberLaws.{digits_length}
 use Rattle.tif.specs.Side.{side_text}
 use Rattle.tif.specs.declared.side.Side.{Side}
 use Rattle.tif.specs.declared.side.Side.TheVariants.{Credit, Debit, Neither}
-use Rattle.tic_text.specs.Pieces.{joined, widths_of, total}
+use Rattle.tic_text.specs.Pieces.{widths_of, total}
 use Rattle.tic_text.specs.PieceLaws.{joined_length}
 use Rattle.tic_text.specs.Text.{zeros, blanks, front_pieces, number_pieces, count_pieces, filler_pieces, end_pieces, header_pieces, header_text, listed_pieces, listed_text, footer_pieces, footer_text, Tic, listed_at, listed_count, tic_text}
 use Rattle.tic_text.specs.declared.values.TicHead.{TicHead}

@@ -1,4 +1,5 @@
 use native.Mathlib.Omega.{arith}
+use mathlib.Core.Path.{◌∙◌}
 use Rattle.moment.specs.Calendar.{days_in}
 use Rattle.moment.specs.MomentLaws.{leap_small}
 use Rattle.moment.proofs.days_in.Goals as goal
@@ -11,4 +12,4 @@ bounds-leap c = omega (arith, c.leap.ensures, leap_small c.args.year)
 
 pub returns : goal.returns
 unfolding days_in
-returns c = rw c.leap.ensures
+returns c = c.wide.ensures ∙ rw c.leap.ensures

@@ -1,7 +1,6 @@
 use Prim.Native.Nat.{◌*◌}
 use mathlib.Core.Path.{sym, ◌∙◌}
 use lib.ListN.{length}
-use borrow.Author.Rules.{rules}
 use borrow.Author.Tests.{eq-eqb, ne_eqb}
 use Rattle.answers.specs.Card.{verdicts_in_use, is_card}
 use Rattle.answers.proofs.card.is_card.Goals as goal

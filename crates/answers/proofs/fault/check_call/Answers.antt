@@ -1,9 +1,7 @@
 use mathlib.Core.Path.{◌≡◌, sym, ap, ◌∙◌}
 use mathlib.Core.Bool.{Bool, not}
-use mathlib.Core.List.{List}
 use lib.ListN.{drop}
-use borrow.Author.Rules.{rules}
-use Rattle.lines.specs.FirstOf.{Row, Picks, picked, here, past, none}
+use Rattle.lines.specs.FirstOf.{Picks, picked, here, past, none}
 use Rattle.tst.specs.Form.{is_lent}
 use Rattle.answers.specs.Card.{is_card}
 use Rattle.answers.specs.Fault.{check_call, call_rows}

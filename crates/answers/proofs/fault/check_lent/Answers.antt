@@ -4,8 +4,7 @@ use mathlib.Core.Path.{◌≡◌, refl, sym, ap, ◌∙◌}
 use mathlib.Core.Bool.{Bool, true, false, not, cond}
 use mathlib.Core.List.{List}
 use lib.ListN.{drop}
-use borrow.Author.Rules.{rules}
-use Rattle.lines.specs.FirstOf.{Row, Picks, picked, here, past, none}
+use Rattle.lines.specs.FirstOf.{Picks, picked, here, past, none}
 use Rattle.book.specs.Form.{book_form, book_sound}
 use Rattle.book.specs.Layout.{width}
 use Rattle.answers.specs.Fault.{check_lent, lent_rows, is_sound}

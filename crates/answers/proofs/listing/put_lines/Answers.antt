@@ -1,9 +1,7 @@
 use native.Mathlib.Omega.{arith}
-use Prim.Native.Nat.{◌-◌, ◌≤◌}
 use mathlib.Core.Path.{◌≡◌, refl, sym}
 use lib.ListN.{length}
 use borrow.Author.Rules.{rules}
-use Rattle.lines.specs.Splice.{Put}
 use Rattle.lines.specs.SpliceLaws.{put_none, put_more}
 use Rattle.lines.specs.BelowLaws.{join_zero, join_suc}
 use Rattle.answers.specs.Listing.{listed_lines, refused_text}

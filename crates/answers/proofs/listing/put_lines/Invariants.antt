@@ -1,13 +1,8 @@
-use native.Mathlib.Omega.{arith}
 use Prim.Native.Nat.{◌-◌, ◌≤◌}
-use mathlib.Core.Path.{◌≡◌, refl, sym}
+use mathlib.Core.Path.{◌≡◌}
 use lib.ListN.{length}
-use borrow.Author.Rules.{rules}
 use Rattle.lines.specs.Splice.{Put}
-use Rattle.lines.specs.SpliceLaws.{put_none, put_more}
-use Rattle.lines.specs.BelowLaws.{join_zero, join_suc}
-use Rattle.answers.specs.Listing.{listed_lines, refused_text}
-use Rattle.answers.specs.ListingLaws.{lines_within}
+use Rattle.answers.specs.Listing.{listed_lines}
 use Rattle.answers.proofs.listing.put_lines.Given as goal
 
 abbrev pub invariant-loop-k : goal.invariant-loop-k

@@ -1,6 +1,5 @@
 use native.Mathlib.Omega.{arith}
 use mathlib.Core.Path.{◌≡◌, sym, ap, ◌∙◌}
-use borrow.Author.Rules.{rules}
 use Rattle.lines.specs.SpliceLaws.{put_none}
 use Rattle.tif.specs.Body.{line_at}
 use Rattle.answers.specs.Card.{code_of}

@@ -1,5 +1,4 @@
 use native.Mathlib.Omega.{arith}
-use borrow.Author.Rules.{rules}
 use Rattle.answers.specs.TicLaws.{receiver_long, stem_long, after_header, after_lines, tic_whole}
 use Rattle.lines.specs.Splice.{Put}
 use Rattle.tic_text.specs.Text.{header_text}

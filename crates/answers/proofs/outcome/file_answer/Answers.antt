@@ -1,4 +1,3 @@
-use borrow.Author.Rules.{rules}
 use Rattle.answers.proofs.outcome.file_answer.Goals as goal
 
 pub returns-in-Judged : goal.returns-in-Judged

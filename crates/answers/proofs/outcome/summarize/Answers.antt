@@ -2,7 +2,6 @@ use native.Mathlib.Omega.{arith}
 use Prim.Native.Nat.{◌≤◌}
 use mathlib.Core.Path.{◌≡◌, ap}
 use mathlib.Core.Bool.{true}
-use borrow.Author.Rules.{rules}
 use Rattle.judging.specs.Sums.{count_of}
 use Rattle.judging.specs.SumsLaws.{count_within}
 use Rattle.judging.specs.declared.sums.Sums.{Sums}

@@ -7,7 +7,6 @@ use Rattle.judge.proofs.words.judge_words.Goals as goal
 
 pub slice_bounds-keep_words-end : goal.slice_bounds-keep_words-end
 slice_bounds-keep_words-end c =
-    let a = c.args in
     omega (arith, words_tried_lem _ _ _ _ _ _ c.lines_to_record-n.result c.try_call-answer.ensures c.lines_to_record-n.ensures)
 
 -- what is kept is no more than what is lent

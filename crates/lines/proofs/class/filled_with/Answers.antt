@@ -31,8 +31,6 @@ front c =
 pub returns-then-not-all_of : goal.returns-then-not-all_of
 returns-then-not-all_of c = sym (filled_other _ _ (sym (front (goal.at.returns-then-not-all_of c).After-all_of) ∙ not-true _ c.if-not-all_of.true-raw))
 
--- LOST sub_all_of_2
--- sub_all_of_2 c = omega (arith, place_le (Only 32) c.before.before.before.before.before.before.args.s.now)
 pub slice_bounds-all_of-start-2 : goal.slice_bounds-all_of-start-2
 slice_bounds-all_of-start-2 c = omega (arith, place_le (Only 32) c.args.s.now)
 

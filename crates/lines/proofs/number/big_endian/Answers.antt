@@ -25,8 +25,6 @@ overflow_mul-v c =
     let l = c in
     omega (arith, small l.loop-i.i l.loop-i.v (omega arith) l.loop-i.invariant.1)
 
--- LOST cast_v
--- cast_v c = omega (arith, c.shared_slice_known.given c.before.before.loop.i)
 pub overflow_add-v : goal.overflow_add-v
 overflow_add-v c =
     let l = c in

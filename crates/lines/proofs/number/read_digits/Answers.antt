@@ -30,20 +30,20 @@ pub overflow_sub-v : goal.overflow_sub-v
 overflow_sub-v c =
     let l = c in
     let d = digit_is _ (sym c.is_of.ensures ∙ not-false _ c.if-not-is_of.false-raw) in
-    omega (arith, c.wide.ensures)
+    omega arith
 
 pub overflow_add-v : goal.overflow_add-v
 overflow_add-v c =
     let l = c in
     let d = digit_is _ (sym c.is_of.ensures ∙ not-false _ c.if-not-is_of.false-raw) in
-    omega (arith, c.wide.ensures, value_fits l.args.s.now l.loop-i.i (omega arith) l.loop-i.invariant.0)
+    omega (arith, value_fits l.args.s.now l.loop-i.i (omega arith) l.loop-i.invariant.0)
 
 pub loop-i-preserved : goal.loop-i-preserved
 unfolding byte_is
 loop-i-preserved c =
     let l = c in (
       all_more _ l.loop-i.i l.loop-i.invariant.0 (sym c.is_of.ensures ∙ not-false _ c.if-not-is_of.false-raw),
-      rw (value_suc 10 48 _ l.loop-i.i, ← l.loop-i.invariant.1, c.wide.ensures),
+      rw (value_suc 10 48 _ l.loop-i.i, ← l.loop-i.invariant.1, c.wide.ensures.equal),
       omega arith,
     )
 

@@ -15,14 +15,6 @@ returns-then-size-ends c = sym (fits_not_long _ _ (λ e. omega arith))
 pub returns-then-n-gt9999 : goal.returns-then-n-gt9999
 returns-then-n-gt9999 c = sym (fits_not_few _ _ (omega arith))
 
--- LOST mul_if3
--- mul_if3 c =
---     let a = c.before.before.before.before.before.args in
---     omega (arith, within (a.layout.header + a.layout.footer) a.size a.layout.line)
--- LOST add_if3
--- add_if3 c =
---     let a = c.before.before.before.before.before.args in
---     omega (arith, within (a.layout.header + a.layout.footer) a.size a.layout.line)
 pub returns-then-size-ends-2 : goal.returns-then-size-ends-2
 returns-then-size-ends-2 c = sym (fits_not_long _ _ (λ e. omega arith))
 

@@ -3,6 +3,7 @@ use mathlib.Core.Path.{sym}
 use lib.ListN.{length}
 use Rattle.lines.specs.Same.{before, first_difference}
 use Rattle.lines.specs.BoolLaws.{and_false_left}
+use Rattle.lines.specs.WordLaws.{word_before}
 use borrow.Author.Tests.{le-ltb, lt-ltb}
 use Rattle.lines.proofs.same.is_before.Goals as goal
 
@@ -12,6 +13,12 @@ returns-then-i-a c =
     let a = c.args in
     sym (and_false_left _ _ (le-ltb (first_difference a.a.now a.b.now) (length a.a.now) (omega (arith, c.first_difference-i.ensures))))
 
-pub returns : goal.returns
+pub returns-then-a-lt8 : goal.returns-then-a-lt8
 unfolding before
-returns c = rw (← c.first_difference-i.ensures, lt-ltb _ _ c.if-i-a.false)
+returns-then-a-lt8 c = rw (← c.first_difference-i.ensures, lt-ltb _ _ c.if-i-a.false)
+
+pub returns : goal.returns
+returns c =
+    let a = c.args in
+    rw (c.word_at.ensures, c.word_at-2.ensures)
+    (word_before a.a.now a.b.now (λ j. omega (arith, c.type_inv.a j)) (λ j. omega (arith, c.type_inv.b j)) c.requires c.deciding_word-at.result c.deciding_word-at.ensures)

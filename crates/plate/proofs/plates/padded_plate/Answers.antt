@@ -29,8 +29,6 @@ front c =
 pub returns-then-not-all_plate_bytes : goal.returns-then-not-all_plate_bytes
 returns-then-not-all_plate_bytes c = sym (padded_other _ (sym (front (goal.at.returns-then-not-all_plate_bytes c).After-all_plate_bytes) ∙ not-true _ c.if-not-all_plate_bytes.true-raw))
 
--- LOST sub_all_of
--- sub_all_of c = omega (arith, place_le (Only 32) c.before.before.before.before.before.args.plate.now)
 pub slice_bounds-all_of-start : goal.slice_bounds-all_of-start
 slice_bounds-all_of-start c = omega (arith, place_le (Only 32) c.args.plate.now)
 

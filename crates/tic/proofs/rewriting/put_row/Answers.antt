@@ -1,7 +1,6 @@
 use native.Mathlib.Omega.{arith}
 use mathlib.Core.Path.{ap, ◌∙◌}
 use lib.ListN.{length}
-use borrow.Author.Rules.{rules}
 use Rattle.tic_text.specs.TextLaws.{part_length}
 use Rattle.tic.proofs.rewriting.put_row.Goals as goal
 

@@ -1,12 +1,11 @@
 use native.Mathlib.Omega.{arith}
-use Prim.Native.Nat.{◌+◌, ◌-◌, ◌≤◌}
+use Prim.Native.Nat.{◌+◌, ◌≤◌}
 use mathlib.Core.Path.{◌≡◌, refl, ap, ◌∙◌}
 use lib.ListN.{length}
 use borrow.Author.Rules.{rules}
 use Rattle.lines.specs.Below.{join_below}
 use Rattle.lines.specs.BelowLaws.{join_zero, join_suc}
 use Rattle.lines.specs.RowsLaws.{line_ends}
-use Rattle.lines.specs.Splice.{Put}
 use Rattle.lines.specs.SpliceLaws.{put_none, put_more}
 use Rattle.tic_text.specs.Columns.{tic_layout}
 use Rattle.tic.specs.Rewriting.{tic_of, line_read, code_read}

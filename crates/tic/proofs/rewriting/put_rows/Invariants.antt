@@ -1,16 +1,9 @@
-use native.Mathlib.Omega.{arith}
-use Prim.Native.Nat.{◌+◌, ◌-◌, ◌≤◌}
-use mathlib.Core.Path.{◌≡◌, refl, ap, ◌∙◌}
+use Prim.Native.Nat.{◌-◌, ◌≤◌}
+use mathlib.Core.Path.{◌≡◌}
 use lib.ListN.{length}
-use borrow.Author.Rules.{rules}
 use Rattle.lines.specs.Below.{join_below}
-use Rattle.lines.specs.BelowLaws.{join_zero, join_suc}
-use Rattle.lines.specs.RowsLaws.{line_ends}
 use Rattle.lines.specs.Splice.{Put}
-use Rattle.lines.specs.SpliceLaws.{put_none, put_more}
-use Rattle.tic_text.specs.Columns.{tic_layout}
-use Rattle.tic.specs.Rewriting.{tic_of, line_read, code_read}
-use Rattle.tic.specs.RewritingLaws.{row_length, rows_length}
+use Rattle.tic.specs.Rewriting.{tic_of}
 use Rattle.tic_text.specs.Text.{listed_at}
 use Rattle.tic.proofs.rewriting.put_rows.Given as goal
 

@@ -1,5 +1,4 @@
 use mathlib.Core.Path.{sym, ◌∙◌}
-use borrow.Author.Rules.{rules}
 use Rattle.tic.specs.RewritingLaws.{not_read}
 use Rattle.tic.proofs.rewriting.rewrite_tic.Goals as goal
 

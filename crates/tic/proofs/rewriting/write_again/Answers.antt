@@ -1,5 +1,4 @@
 use native.Mathlib.Omega.{arith}
-use borrow.Author.Rules.{rules}
 use Rattle.tic.specs.RewritingLaws.{again, too_short, written}
 use Rattle.tic.proofs.rewriting.write_again.Goals as goal
 

@@ -1,9 +1,5 @@
 use native.Mathlib.Omega.{arith}
-use mathlib.Core.Path.{ap, ◌∙◌}
-use borrow.Author.Rules.{rules}
-use Rattle.lines.specs.Number.{number_of}
 use Rattle.tic_parts.specs.ReadingLaws.{digits_part, digits_show}
-use Rattle.tic_parts.specs.Reading.{side_in}
 use Rattle.tic_parts.proofs.header.head_of.Goals as goal
 
 pub number_of-acceptance-requires : goal.number_of-acceptance-requires
@@ -14,12 +10,3 @@ number_of-requires c = digits_part _ c.args.h.now 72 15 c.field-3.ensures (omega
 
 pub number_of-requires-2 : goal.number_of-requires-2
 number_of-requires-2 c = digits_part _ c.args.h.now 87 15 c.field-4.ensures (omega arith) (digits_show _ c.requires.1).rejected
-
-pub returns : goal.returns
-returns c =
-    rw (
-      c.number_of-acceptance.ensures ∙ ap number_of c.field.ensures,
-      c.side_in-side.ensures ∙ ap side_in c.field-2.ensures,
-      c.number_of.ensures ∙ ap number_of c.field-3.ensures,
-      c.number_of-2.ensures ∙ ap number_of c.field-4.ensures,
-    )

@@ -1,6 +1,5 @@
 use native.Mathlib.Omega.{arith}
 use mathlib.Core.List.{[], ◌∷◌}
-use borrow.Author.Rules.{rules}
 use Rattle.tic_text.specs.PieceLaws.{put_first, put_pieces}
 use Rattle.tic_text.proofs.header_text.put_actors.Goals as goal
 

@@ -1,6 +1,5 @@
 use native.Mathlib.Omega.{arith}
 use mathlib.Core.List.{[], ◌∷◌, ◌++◌}
-use borrow.Author.Rules.{rules}
 use Rattle.lines.specs.Number.{digits_of}
 use Rattle.lines.specs.NumberLaws.{digits_length}
 use Rattle.tic_text.specs.PieceLaws.{put_piece, joined_length}

@@ -1,6 +1,5 @@
 use native.Mathlib.Omega.{arith}
 use mathlib.Core.List.{◌++◌}
-use borrow.Author.Rules.{rules}
 use Rattle.tic_text.specs.PieceLaws.{put_pieces, joined_length}
 use Rattle.tic_text.specs.Text.{front_pieces, count_pieces, end_pieces, header_text}
 use Rattle.tic_text.specs.TextLaws.{front_width, count_width}
@@ -9,12 +8,14 @@ use Rattle.tic_text.proofs.header_text.put_header.Goals as goal
 pub put_counts-mid-requires : goal.put_counts-mid-requires
 put_counts-mid-requires c =
     let a = c.args in
-    omega (arith, joined_length (front_pieces a.receiver.now a.stem.now a.moment.now), front_width a.receiver.now a.stem.now a.moment.now c.requires.receiver_long c.requires.stem_long c.requires.moment_long)
+    let wide = front_width a.receiver.now a.stem.now a.moment.now c.requires.receiver_long c.requires.stem_long c.requires.moment_long in
+    omega (arith, joined_length (front_pieces a.receiver.now a.stem.now a.moment.now), wide)
 
 pub put_end-requires : goal.put_end-requires
 put_end-requires c =
     let a = c.args in
-    omega (arith, joined_length (front_pieces a.receiver.now a.stem.now a.moment.now), front_width a.receiver.now a.stem.now a.moment.now c.requires.receiver_long c.requires.stem_long c.requires.moment_long, joined_length (count_pieces a.head), count_width a.head)
+    let wide = front_width a.receiver.now a.stem.now a.moment.now c.requires.receiver_long c.requires.stem_long c.requires.moment_long in
+    omega (arith, joined_length (front_pieces a.receiver.now a.stem.now a.moment.now), wide, joined_length (count_pieces a.head), count_width a.head)
 
 pub returns : goal.returns
 unfolding header_text

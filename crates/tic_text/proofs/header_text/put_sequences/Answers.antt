@@ -1,6 +1,5 @@
 use native.Mathlib.Omega.{arith}
 use mathlib.Core.List.{[], ◌∷◌}
-use borrow.Author.Rules.{rules}
 use Rattle.tic_text.specs.PieceLaws.{put_pieces, joined_length}
 use Rattle.tic_text.specs.Text.{tic_kind}
 use Rattle.tif.specs.Name.{tif_kind}

@@ -1,5 +1,4 @@
 use mathlib.Core.Path.{◌≡◌}
-use borrow.Author.Rules.{rules}
 use Rattle.tif.specs.declared.side.Side.{Side}
 use Rattle.tic_text.proofs.header_text.put_side.Goals as goal
 

@@ -1,6 +1,5 @@
 use native.Mathlib.Omega.{arith}
 use mathlib.Core.List.{[], ◌∷◌, ◌++◌}
-use borrow.Author.Rules.{rules}
 use Rattle.tic_text.specs.PieceLaws.{put_first, put_piece, put_pieces, joined_length}
 use Rattle.tic_text.specs.Text.{number_pieces, zeros, footer_text}
 use Rattle.tic_text.specs.TextLaws.{number_width}

@@ -2,7 +2,6 @@ use native.Mathlib.Omega.{arith}
 use mathlib.Core.Path.{ap}
 use mathlib.Core.List.{[], ◌∷◌}
 use lib.ListN.{length}
-use borrow.Author.Rules.{rules}
 use Rattle.lines.specs.Columns.{cols}
 use Rattle.tic_text.specs.PieceLaws.{put_first, put_piece}
 use Rattle.tic_text.specs.Text.{listed_text}

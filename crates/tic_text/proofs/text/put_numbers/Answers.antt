@@ -1,6 +1,5 @@
 use native.Mathlib.Omega.{arith}
 use mathlib.Core.List.{[], ◌∷◌}
-use borrow.Author.Rules.{rules}
 use Rattle.lines.specs.NumberLaws.{digits_length}
 use Rattle.tic_text.specs.PieceLaws.{put_first, put_piece}
 use Rattle.tic_text.specs.Text.{fifteen}

@@ -1,6 +1,5 @@
 use native.Mathlib.Omega.{arith}
 use mathlib.Core.List.{[], ◌∷◌}
-use borrow.Author.Rules.{rules}
 use Rattle.tic_text.specs.PieceLaws.{put_first, put_piece}
 use Rattle.tic_text.proofs.text.put_pair.Goals as goal
 

@@ -1,0 +1,33 @@
+// Chains that rise, in one array: a link for each hash, and behind these one for each number. A link leads to the next number of its hash, and past the last number of all where there is none.
+ghost use Rattle.std.specs.Prelude.{◌≡◌, ℕ, ◌+◌, ◌≤◌, ◌<◌, length, get_or, set};
+ghost use Rattle.chains.specs.Hash.{hashes};
+
+use crate::hash::HASHES;
+
+pub fn link_of(x: u16) -> usize
+    ensures { result ≡ x }
+{
+    x as usize
+}
+
+// No number is in yet: each head leads past the last of n.
+pub fn clear_ahead(links: &mut [u16], n: usize)
+    requires { (hashes ≤ length links.old) × (n < 65536) }
+    ensures { (h : ℕ) → h < hashes → get_or links.new h 0 ≡ n }
+{
+    let mut i = 0;
+    while i < HASHES {
+        links[i] = n as u16;
+        i += 1;
+    }
+}
+
+// Puts the number k, whose link stands in the slot `at`, in front of the chain of h.
+pub fn enter_ahead(links: &mut [u16], h: usize, at: usize, k: usize)
+    requires { (h < hashes) × (hashes + at < length links.old) × (k < 65536) }
+    ensures { links.new ≡ set (set links.old (hashes + at) (get_or links.old h 0)) h k }
+{
+    let first = links[h];
+    links[HASHES + at] = first;
+    links[h] = k as u16;
+}

@@ -1,0 +1,102 @@
+use native.Mathlib.Omega.{arith}
+use Prim.Native.Nat.{ℕ, ◌+◌, ◌*◌, ◌/◌, ◌%◌, ◌<◌}
+use mathlib.Core.Path.{◌≡◌, refl, sym, ap, ◌∙◌}
+use mathlib.Core.Bool.{Bool, true, false}
+use mathlib.Core.List.{List}
+use lib.ListN.{length, get_or}
+use Rattle.book.specs.Layout.{width, agreements, period_of}
+use Rattle.book.specs.LayoutLaws.{period_length}
+use Rattle.book.specs.FormLaws.{whole_is}
+use Rattle.chains.specs.Hash.{hash_two}
+use Rattle.cover.specs.Cover.{asked, period_covers}
+use Rattle.cover.specs.Plates.{numbers_of, body_for, numbered, period_for, slot_at, covers_number, PeriodAt, PlatesIndexed, WayTo}
+use Rattle.cover.specs.PlatesLaws.{number_at, number_covers, stands_in, ends_low}
+use Rattle.cover.specs.PlateChainLaws.{to_start, to_number, to_hit, to_more, to_none}
+use Rattle.cover.proofs.plates.first_leased.Goals as goal
+use Rattle.cover.proofs.plates.first_leased.Goals.{After-body_place-at, After-link_of-x-in-loop-x}
+
+pub agreements_of-n-requires : goal.agreements_of-n-requires
+agreements_of-n-requires c = (whole_is width _ c.requires.0.sound).headed.enough
+
+pub overflow_mul-n : goal.overflow_mul-n
+overflow_mul-n c = omega (arith, c.agreements_of-n.ensures, (whole_is width _ c.requires.0.sound).headed.few)
+
+pub bounds-links-hash_two : goal.bounds-links-hash_two
+bounds-links-hash_two c = omega (arith, c.hash_two.ensures.1, c.requires.1.long)
+
+pub loop-x-init : goal.loop-x-init
+loop-x-init c =
+    to_start _ _ _ _ _ c.requires.1 _ _ c.hash_two.ensures.0 c.link_of-x.ensures
+
+-- the numbers that the loop goes through
+bound : (book : List ℕ) (k x : ℕ) → k ≡ agreements book → x < 64 * k → x < numbers_of book
+bound book k x e h = let f = ap (λ (i : ℕ). 64 * i) e in omega arith
+
+-- in the loop x is the number of a period
+number : (book links moment plate nation : List ℕ) (k x : ℕ) → PlatesIndexed book links → WayTo book links (asked false moment plate nation) (hash_two plate nation) x
+    → k ≡ agreements book → x < 64 * k → numbered book x ≡ true
+number book links moment plate nation k x i w e h = to_number book links moment plate nation i x w (bound book k x e h)
+
+-- what the test of a turn says
+told : (book moment plate nation : List ℕ) (x at : ℕ) (period : List ℕ) (t : Bool) → numbered book x ≡ true → at ≡ body_for book x
+    → period ≡ period_of width book at (x % 64) → t ≡ period_covers (asked false moment plate nation) period
+    → covers_number book (asked false moment plate nation) x ≡ t
+unfolding period_for
+told book moment plate nation x at period t n a p e =
+    let q = asked false moment plate nation in
+    number_covers book q x n ∙ sym (e ∙ ap (period_covers q) (p ∙ ap (λ (i : ℕ). period_of width book i (x % 64)) a))
+
+pub body_place-at-requires : goal.body_place-at-requires
+body_place-at-requires c =
+    let n = number _ _ _ _ _ _ c.loop-x.x c.requires.1 c.loop-x.invariant c.agreements_of-n.ensures (omega arith) in
+    let p = number_at c.args.book.now c.loop-x.x _ c.requires.0.sound n refl in
+    (p.sound, p.agreement)
+
+-- the period of that number
+period : (c : After-body_place-at) → PeriodAt c.args.book.now (c.loop-x.x / 64) c.body_place-at.result (c.loop-x.x % 64)
+period c =
+    number_at _ c.loop-x.x _ c.requires.0.sound (number _ _ _ _ _ _ c.loop-x.x c.requires.1 c.loop-x.invariant c.agreements_of-n.ensures (omega arith)) c.body_place-at.ensures
+
+pub period_of-requires : goal.period_of-requires
+period_of-requires c = stands_in _ _ _ _ (period (goal.at.period_of-requires c).After-body_place-at)
+
+pub plate_covers-requires : goal.plate_covers-requires
+plate_covers-requires c =
+    (ap length c.period_of.ensures ∙ period_length width _ _ _ (stands_in _ _ _ _ (period (goal.at.plate_covers-requires c).After-body_place-at)), c.requires.0.timed)
+
+pub returns-then-plate_covers : goal.returns-then-plate_covers
+returns-then-plate_covers c =
+    let n = number _ _ _ _ _ _ c.loop-x.x c.requires.1 c.loop-x.invariant c.agreements_of-n.ensures (omega arith) in
+    to_hit _ _ _ _ _ c.requires.1 c.loop-x.x c.loop-x.invariant (bound _ _ c.loop-x.x c.agreements_of-n.ensures (omega arith))
+    (told _ _ _ _ c.loop-x.x _ _ _ n c.body_place-at.ensures c.period_of.ensures c.plate_covers.ensures ∙ c.if-plate_covers.true)
+
+pub slot_at-requires : goal.slot_at-requires
+slot_at-requires c = ends_low _ _ _ _ (period (goal.at.slot_at-requires c).After-body_place-at)
+
+pub bounds-links-slot_at : goal.bounds-links-slot_at
+bounds-links-slot_at c = omega (arith, c.slot_at.ensures.1, c.requires.1.long)
+
+-- one turn: the next number, which is greater
+on : (c : After-link_of-x-in-loop-x) →
+    let a = c.args in
+    WayTo a.book.now a.links.now (asked false a.moment.now a.plate.now a.nation.now) (hash_two a.plate.now a.nation.now) c.link_of-x-in-loop-x.result × (c.loop-x.x < c.link_of-x-in-loop-x.result)
+on c =
+    let a = c.args in
+    let n = number _ _ _ _ _ _ c.loop-x.x c.requires.1 c.loop-x.invariant c.agreements_of-n.ensures (omega arith) in
+    to_more _ _ _ _ _ c.requires.1 c.loop-x.x c.loop-x.invariant (bound _ _ c.loop-x.x c.agreements_of-n.ensures (omega arith))
+    (told _ _ _ _ c.loop-x.x _ _ _ n c.body_place-at.ensures c.period_of.ensures c.plate_covers.ensures ∙ c.if-plate_covers.false) _
+    (c.link_of-x-in-loop-x.ensures
+    ∙ ap (λ (s : ℕ). get_or a.links.now (4096 + s) 0) c.slot_at.ensures.0
+    ∙ ap (λ (at : ℕ). get_or a.links.now (4096 + slot_at at (c.loop-x.x % 64)) 0) c.body_place-at.ensures)
+
+pub loop-x-smaller : goal.loop-x-smaller
+loop-x-smaller c =
+    omega (arith, bound _ _ c.loop-x.x c.agreements_of-n.ensures (omega arith), (on (goal.at.loop-x-smaller c).After-link_of-x-in-loop-x).1)
+
+pub loop-x-preserved : goal.loop-x-preserved
+loop-x-preserved c = (on (goal.at.loop-x-preserved c).After-link_of-x-in-loop-x).0
+
+pub returns : goal.returns
+returns c =
+    let f = ap (λ (i : ℕ). 64 * i) c.agreements_of-n.ensures in
+    to_none _ _ _ _ _ c.requires.1 c.loop-x.x c.loop-x.invariant (omega arith)

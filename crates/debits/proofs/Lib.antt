@@ -1,0 +1,5 @@
+pub mod AcceptedLaws
+pub mod Balance
+pub mod SequenceLaws
+pub mod Demand3Laws
+pub mod Demand3

@@ -1,0 +1,10 @@
+-- Ranges of bytes, the bounds included. Assumes nothing.
+use Rattle.std.specs.Prelude.{Bool, ◌&&◌, ◌||◌, ℕ, leb}
+use Rattle.lines.specs.declared.class.Ranges.{Ranges}
+
+abbrev pub between : ℕ → ℕ → ℕ → Bool
+between low high b = leb low b && leb b high
+
+-- in one range or in the other
+unfoldable pub in_ranges : Ranges → ℕ → Bool
+in_ranges r b = between r.0 r.1 b || between r.2 r.3 b

@@ -1,5 +1,0 @@
-use borrow.Author.Rules.{rules}
-use Rattle.tic.proofs.listed.shown_line.Goals as goal
-
-pub returns-in-At : goal.returns-in-At
-returns-in-At c = rw c.in-At.is c.part_of.ensures
