@@ -1,7 +1,7 @@
 -- What two reads take, one after the other. Assumes nothing.
 use Rattle.std.proofs.Common.{ℕ, ◌+◌, ◌<◌, ◌≤◌, List, ◌++◌, Option, inr, arith, length-append}
 use Rattle.std.proofs.KnownBytes.{Consumes-trans}
-use Rattle.reading.specs.Reads.{LosesAtMost}
+use Rattle.buffers.specs.Reads.{LosesAtMost}
 use Rattle.frames.specs.Cases.{ReadsSize, LacksPart}
 
 -- a size was read, and then no more than some bytes of the part are gone

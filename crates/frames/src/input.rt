@@ -1,9 +1,9 @@
 ghost use Rattle.std.specs.Prelude.{◌≡◌, ◌+◌, ◌≤◌, true, false, length, IfOk, OnErr};
 ghost use Rattle.std.specs.Io.KnownBytes.{IsAtEnd};
-ghost use Rattle.reading.specs.Reads.{LosesAtMost};
+ghost use Rattle.buffers.specs.Reads.{LosesAtMost};
 ghost use Rattle.frames.specs.Cases.{ReadsKind, ReadsSize, ReadsPart, LacksPart};
 
-use reading::read_full;
+use buffers::read_full;
 use std::io;
 use std::io::Read;
 

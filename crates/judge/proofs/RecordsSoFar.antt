@@ -1,16 +1,11 @@
 -- The list that `fill` has after i turns: the records of the first i lines, and the rest as it was. Assumes nothing.
-use Rattle.std.specs.Prelude.{◌≡◌, ℕ, zero, suc, ◌+◌, ◌<◌, ◌≤◌, List, [], ◌∷◌, ◌++◌, length, drop, set}
+use Rattle.std.specs.Prelude.{◌≡◌, ℕ, zero, suc, ◌+◌, ◌<◌, List, [], ◌∷◌, ◌++◌, length, drop, set}
 use mathlib.Core.Path.{refl, sym, ◌∙◌, ap}
-use native.Mathlib.Omega.{arith}
 use native.Mathlib.Nat.{add-zero, add-suc, not-suc-le-zero, le_of_suc-le-suc}
 use mathlib.Core.List.{append_assoc}
-use lib.ListN.{length-append, length-drop}
+use lib.ListN.{length-append}
 use Rattle.verdicts.specs.declared.record.Record.{Record}
 use Rattle.judge.specs.Records.{record_at, records_to}
-
--- the bytes of a `Record`: all that the walks know of its fields. `Record.Laws` has it as `size_is`, and MIR as the factor of an index
-abbrev pub record_size : ℕ
-record_size = 48
 
 pub one_more : (i : ℕ) → i + 1 ≡ suc i
 one_more i = add-suc i zero ∙ ap suc (add-zero i)
@@ -38,9 +33,6 @@ module _ (tif words : List ℕ) where
   pub so_far_none : (ys : List Record) → so_far ys 0 ≡ ys
   unfolding records_to
   so_far_none ys = refl
-
-  pub so_far_length : (ys : List Record) (i : ℕ) → i ≤ length ys → length (so_far ys i) ≡ length ys
-  so_far_length ys i le = length-append (records_to tif words i) (drop i ys) ∙ ap (λ (k : ℕ). k + length (drop i ys)) (length_records i) ∙ ap (λ (k : ℕ). i + k) (length-drop i ys) ∙ omega (arith, le)
 
   -- one turn more
   pub so_far_more : (ys : List Record) (i : ℕ) → i < length ys → set (so_far ys i) i (record_at tif words i) ≡ so_far ys (suc i)

@@ -1,8 +1,7 @@
 -- From what was read and written to the input and its line. Assumes nothing.
-use Rattle.std.proofs.Common.{◌≡◌, sym, ap, ◌∙◌, ℕ, ◌-◌, ◌<◌, ◌≤◌, List, ◌++◌, Option, Some, None, IfSome, Result, OnOk, inl, inr, ◌⊎◌, arith, length, length-append, take, drop, take_at, append-nil, subst}
+use Rattle.std.proofs.Common.{◌≡◌, sym, ap, ◌∙◌, ℕ, ◌-◌, ◌<◌, ◌≤◌, List, ◌++◌, Option, Some, None, IfSome, inl, inr, ◌⊎◌, arith, length, length-append, take, drop, take_at, append-nil, subst}
 use Rattle.std.proofs.Math.Nat.{sub-zero, eq-or-lt_of_le}
-use Rattle.std.proofs.lemmas.Result.{on_ok_weaker}
-use Rattle.std.specs.Io.KnownBytes.{Appends, Consumes, IsAtEnd}
+use Rattle.std.specs.Io.KnownBytes.{Consumes, IsAtEnd}
 use Rattle.lines.specs.Splice.{Put}
 use Rattle.lines.specs.SpliceLaws.{splice_zero}
 use Rattle.job_form.specs.FormLaws.{too_long}
@@ -31,8 +30,19 @@ all_alike (Some xs) None bs room P read long fits end p = absurd read
 all_alike (Some xs) (Some rest) bs room P read long fits end p =
     subst P (alike bs rest room long (eq-or-lt_of_le fits) end ∙ ap printed_of (sym read)) p
 
--- bs was read into a buffer with room for more than a job, until that was full or the input at its end, and its line was written
-pub line_of_all : {T E : Type 0} (r : Result T E) (old new held held' : Option (List ℕ)) (bs text : List ℕ) (room : ℕ) → Consumes old new bs → 65536 < room → length bs ≤ room → (length bs < room → IsAtEnd new)
-    → text ≡ printed_of bs → OnOk r (Appends held held' text) → OnOk r (IfSome old (λ input. Appends held held' (printed_of input)))
-line_of_all r old new held held' bs text room read long fits end is written =
-    on_ok_weaker r (λ w. all_alike old new bs room (Appends held held') read long fits end (subst (Appends held held') is w)) written
+-- bs was read into a buffer with room for more than a job, until that was full or the input at its end, and text is its line
+pub record WholeRead (old new : Option (List ℕ)) (bs text : List ℕ) (room : ℕ) : Type 0 where
+  pub read : Consumes old new bs
+  pub long : 65536 < room
+  pub fits : length bs ≤ room
+  pub end : length bs < room → IsAtEnd new
+  pub line : text ≡ printed_of bs
+
+-- what holds of that line holds of the line of all the input
+pub of_whole : {old new : Option (List ℕ)} {bs text : List ℕ} {room : ℕ} → WholeRead old new bs text room → (P : List ℕ → Type 0) → P text → IfSome old (λ input. P (printed_of input))
+of_whole {old} {new} {bs} {text} {room} w P p = all_alike old new bs room P w.read w.long w.fits w.end (subst P w.line p)
+
+-- what holds of any input holds of what there is
+pub of_any : (old : Option (List ℕ)) (P : List ℕ → Type 0) → ((xs : List ℕ) → P xs) → IfSome old P
+of_any None P h = tt
+of_any (Some xs) P h = h xs

@@ -1,10 +1,6 @@
-// Reading a whole buffer from any reader.
-// Of a reader whose bytes are not known, as the standard input, no more is promised than how many bytes there are: the clauses on bytes speak where they are known.
-#![tactic(auto)]
-
 ghost use Rattle.std.specs.Prelude.{◌<◌, ◌≤◌, length, take, IfOk, OnErr};
 ghost use Rattle.std.specs.Io.KnownBytes.{Consumes, IsAtEnd};
-ghost use Rattle.reading.specs.Reads.{LosesAtMost};
+ghost use Rattle.buffers.specs.Reads.{LosesAtMost};
 
 use std::io;
 use std::io::Read;

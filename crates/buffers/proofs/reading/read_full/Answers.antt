@@ -1,8 +1,8 @@
 use Rattle.std.proofs.Common.{rules, subst, sym}
 use Rattle.std.specs.Io.KnownBytes.{Consumes}
 use Rattle.std.proofs.KnownBytes.{Consumes-trans}
-use Rattle.reading.proofs.Fronts.{filled_further}
-use Rattle.reading.proofs.read_full.Goals as goal
+use Rattle.buffers.proofs.Fronts.{filled_further}
+use Rattle.buffers.proofs.reading.read_full.Goals as goal
 
 -- the bytes of this read stand behind those of the reads before
 pub loop-done-preserved : goal.loop-done-preserved

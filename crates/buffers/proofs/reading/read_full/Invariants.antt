@@ -1,7 +1,7 @@
 -- What stands at the front of the buffer is what was read.
 use Rattle.std.proofs.Common.{◌≡◌, ◌-◌, ◌≤◌, length, take}
 use Rattle.std.specs.Io.KnownBytes.{Consumes}
-use Rattle.reading.proofs.read_full.Given as goal
+use Rattle.buffers.proofs.reading.read_full.Given as goal
 
 abbrev pub invariant-loop-done : goal.invariant-loop-done
 invariant-loop-done g l = record {
