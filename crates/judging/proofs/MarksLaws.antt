@@ -1,12 +1,11 @@
 -- The marks follow the verdicts: a line that credits a debit marks that one, and every other line, a credit refused before L8 among them, marks none. Assumes nothing.
 -- These laws stand here and not in specs/, since they rest on `fails_verdict` and `passes_verdict`, which wrong tests of a line make false: a must-fail edit counts only where nothing in specs/ rests on what it makes false.
-use Rattle.std.specs.Prelude.{◌≡◌, refl, Bool, true, false, List, ℕ, suc}
+use Rattle.std.specs.Prelude.{◌≡◌, refl, Bool, true, false, List, ℕ, suc, Option, Some, None}
 use Rattle.std.proofs.Common.{sym, ap, ◌∙◌}
 use Rattle.tif.specs.Body.{line_at}
 use Rattle.tif.specs.declared.side.Side.{Side}
 use Rattle.tif.specs.declared.side.Side.TheVariants.{Credit, Debit, Neither}
-use Rattle.cover.specs.declared.cover.Cover.{Cover}
-use Rattle.cover.specs.declared.cover.Cover.TheVariants.{At, Nothing}
+use Rattle.cover.specs.declared.cover.Place.{Place}
 use Rattle.debits.specs.Credits.{marks_after}
 use Rattle.debits.specs.Taking.{marks_then}
 use Rattle.debits.specs.declared.taking.Taken.{Taken}
@@ -22,10 +21,10 @@ credit_debit : (took : Taken) → debit_of (credit_of took) ≡ took
 credit_debit (Taken.Debit debit) = refl
 credit_debit Taken.NoDebit = refl
 
-debit_none : (repeated : Bool) (cover : Cover) → debit_of (debit_verdict repeated cover) ≡ Taken.NoDebit
+debit_none : (repeated : Bool) (cover : Option Place) → debit_of (debit_verdict repeated cover) ≡ Taken.NoDebit
 debit_none true cover = refl
-debit_none false (At place) = refl
-debit_none false Nothing = refl
+debit_none false (Some place) = refl
+debit_none false None = refl
 
 module _ (j : Judging) (marks : List ℕ) (k : ℕ) where
   -- by the verdict on line k the marks after it are given
