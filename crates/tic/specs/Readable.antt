@@ -1,12 +1,10 @@
 -- What it shows that a TIC reads: each test that it passed. Assumes nothing.
-use Rattle.std.specs.Prelude.{◌≡◌, refl, Bool, true, false, not, List, [], ◌∷◌, ℕ, drop}
+use Rattle.std.specs.Prelude.{◌≡◌, refl, Bool, true, false, not, List, [], ◌∷◌, ℕ, drop, Option, Some, None}
 use Rattle.std.proofs.Common.{sym, ap, ◌∙◌, arith}
 use Rattle.std.proofs.lemmas.Bool.{false≢true}
 use Rattle.lines.specs.FirstOf.{Row, ◌⇒◌, first_of}
 use Rattle.lines.specs.Rows.{framed_lines}
 use Rattle.lines.specs.RowsLaws.{Framed, framed_is}
-use Rattle.lines.specs.declared.rows.Lines.{Lines}
-use Rattle.lines.specs.declared.rows.Lines.TheVariants.{Of, OutOfForm}
 use Rattle.tif.specs.Acceptance.{is_framed, framed_count}
 use Rattle.tic_text.specs.Columns.{tic_layout}
 use Rattle.tic_parts.specs.Reading.{tic_header, tic_footer, header_sound, head_of, counts_agree, lines_formed, footer_formed, sums_of, sums_fit, listed_sum, read_rows, values_of, read_tic}
@@ -17,7 +15,7 @@ use Rattle.tic_text.specs.declared.values.TicReading.{TicReading}
 use Rattle.tic_text.specs.declared.values.TicReading.TheVariants.{Unreadable, Values}
 
 pub record Readable (tic : List ℕ) (n : ℕ) : Type 0 where
-  pub framed : framed_lines tic_layout tic ≡ Of n
+  pub framed : framed_lines tic_layout tic ≡ Some n
   pub whole : Framed tic_layout tic n
   pub header : header_sound (tic_header tic) ≡ true
   pub counts : counts_agree (tic_header tic) n ≡ true
@@ -41,11 +39,11 @@ pub read_shows : (tic : List ℕ) (v : TicValues) → read_tic tic ≡ Values v 
 unfolding read_tic
 read_shows tic v e = go (framed_lines tic_layout tic) refl e
   where
-    go : (l : Lines) → framed_lines tic_layout tic ≡ l
+    go : (l : Option ℕ) → framed_lines tic_layout tic ≡ l
         → first_of ((not (is_framed l) ⇒ Unreadable Framing) ∷ drop 1 (read_rows tic (framed_count l))) (Values (values_of tic (framed_count l))) ≡ Values v
         → Readable tic v.listed × (v ≡ values_of tic v.listed)
-    go OutOfForm f p = absurd (false≢true (passed false Framing (drop 1 (read_rows tic 0)) (Values (values_of tic 0)) v p).0)
-    go (Of n) f p =
+    go None f p = absurd (false≢true (passed false Framing (drop 1 (read_rows tic 0)) (Values (values_of tic 0)) v p).0)
+    go (Some n) f p =
         let rows = read_rows tic n in
         let end : TicReading = Values (values_of tic n) in
         let p₁ = passed true Framing (drop 1 rows) end v p in

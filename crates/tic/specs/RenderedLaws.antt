@@ -1,5 +1,5 @@
 -- The text of sound values reads, row by row, as those values. Assumes nothing.
-use Rattle.std.specs.Prelude.{◌≡◌, refl, Bool, true, false, cond, ◌&&◌, not, ℕ, ◌+◌, ◌^◌, ◌≤◌, ◌<◌, length, eqb, ltb}
+use Rattle.std.specs.Prelude.{◌≡◌, refl, Bool, true, false, cond, ◌&&◌, not, ℕ, ◌+◌, ◌^◌, ◌≤◌, ◌<◌, length, eqb, ltb, Some}
 use Rattle.std.proofs.Common.{sym, ◌∙◌, arith, lit<, eqb-true, leb-true, ltb-false}
 use Rattle.std.proofs.Math.Path.{ap}
 use Rattle.std.proofs.lemmas.Bool.{false≢true}
@@ -10,7 +10,6 @@ use Rattle.lines.specs.BelowSame.{sum_same}
 use Rattle.lines.specs.FirstOf.{past, none, first_of}
 use Rattle.lines.specs.Number.{number_of}
 use Rattle.lines.specs.Rows.{most_lines, framed_lines, one_feed}
-use Rattle.lines.specs.declared.rows.Lines.TheVariants.{Of}
 use Rattle.moment.specs.MomentLaws.{moment_shows}
 use Rattle.passage.specs.Passage.{gross_amount}
 use Rattle.passage.specs.PassageLaws.{gross_small}
@@ -108,7 +107,7 @@ module _ (v : Tic) (s : Sound v) where
   line_feed k h = row_feed (v.line k) (v.code k) (shown k h) (code_shows (v.code k) (s.code k h)).0 (code_shows (v.code k) (s.code k h)).1
 
   -- the text is framed, with as many lines as are rejected
-  pub text_framed : framed_lines tic_layout (tic_text v) ≡ Of (listed_count v)
+  pub text_framed : framed_lines tic_layout (tic_text v) ≡ Some (listed_count v)
   unfolding tic_text head
   text_framed =
       joined_framed tic_layout head (listed_at v) (footer_text v.sums) (listed_count v) head_long (listed_at_length v wide) (footer_length v.sums)

@@ -1,7 +1,7 @@
 ghost use Rattle.std.specs.Prelude.{◌≡◌};
 ghost use Rattle.tic_parts.specs.Reading.{fault_number, read_tic};
 
-use lines::{Lines, footer_of, framed_lines, header_of};
+use lines::{footer_of, framed_lines, header_of};
 use tic_parts::{
     counts_agree, footer_formed, head_of, header_sound, lines_formed, listed_sum, sums_fit, sums_of,
 };
@@ -12,7 +12,7 @@ use tic_text::{TIC, TicFault, TicReading, TicValues};
 pub fn read_tic(tic: &[u8]) -> TicReading
     ensures { result ≡ read_tic tic.now }
 {
-    let Lines::Of(n) = framed_lines(TIC, tic) else {
+    let Some(n) = framed_lines(TIC, tic) else {
         return TicReading::Unreadable(TicFault::Framing);
     };
     let header = header_of(TIC, tic);

@@ -6,7 +6,7 @@ use crate::columns::TIF;
 use crate::footer::footer_amount;
 use crate::header::{Header, counts_agree, read_header};
 use crate::received::is_received;
-use lines::{Count, Gross, Lines, footer_of, framed_lines, header_of};
+use lines::{Count, Gross, footer_of, framed_lines, header_of};
 
 // A file that is to be judged line by line: its lines and the exact sum of their amounts with VAT.
 #[derive(Clone, Copy)]
@@ -33,7 +33,7 @@ pub fn acceptance_of(name: &[u8], names: &[u8], tif: &[u8]) -> Acceptance
     if is_received(names, name) {
         return Acceptance::AlreadyReceived;
     }
-    let Lines::Of(n) = framed_lines(TIF, tif) else {
+    let Some(n) = framed_lines(TIF, tif) else {
         return Acceptance::OutOfForm;
     };
     let Header::States(counts) = read_header(name, header_of(TIF, tif)) else {
@@ -48,7 +48,7 @@ pub fn acceptance_of(name: &[u8], names: &[u8], tif: &[u8]) -> Acceptance
     if !counts_agree(counts, Count(n as u64)) {
         return Acceptance::CountsDiffer;
     }
-    if !total.equals(sum) {
+    if total != sum {
         return Acceptance::TotalDiffers;
     }
     Acceptance::Judged(Whole {

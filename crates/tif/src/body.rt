@@ -5,7 +5,7 @@ ghost use Rattle.tif.specs.Columns.{tif_layout};
 ghost use Rattle.tif.specs.Body.{line_amount, body_amount};
 
 use crate::reader::tif_line;
-use lines::{Digits, Gross, field, read_digits};
+use lines::{Gross, field, read_digits};
 use passage::GROSS_AMOUNT;
 
 // An amount with VAT that a line, a body or a footer states.
@@ -24,7 +24,7 @@ pub fn line_amount(line: &[u8]) -> Amount
     if line[0] != b'1' {
         return Amount::OutOfForm;
     }
-    let Digits::Value(v) = read_digits(field(line, GROSS_AMOUNT)) else {
+    let Some(v) = read_digits(field(line, GROSS_AMOUNT)) else {
         return Amount::OutOfForm;
     };
     Amount::States(Gross(v))

@@ -4,7 +4,7 @@ ghost use Rattle.tif.specs.Footer.{footer_amount};
 
 use crate::body::Amount;
 use crate::columns::{FOOTER_FILLER, TOTAL};
-use lines::{Class, Digits, Gross, all_of, field, read_digits};
+use lines::{Class, Gross, all_of, field, read_digits};
 
 // The total of a footer.
 #[tactic(auto, unfolding(crate::specs::Footer::footer_amount, crate::specs::Footer::footer_sound, crate::specs::Every::every, crate::specs::Body::amount_if, lines::specs::Number::read_digits))]
@@ -18,7 +18,7 @@ pub fn footer_amount(footer: &[u8]) -> Amount
     if !all_of(Class::Only(48), field(footer, FOOTER_FILLER)) {
         return Amount::OutOfForm;
     }
-    let Digits::Value(v) = read_digits(field(footer, TOTAL)) else {
+    let Some(v) = read_digits(field(footer, TOTAL)) else {
         return Amount::OutOfForm;
     };
     Amount::States(Gross(v))
