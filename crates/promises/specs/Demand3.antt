@@ -2,7 +2,7 @@
 -- and the records lent, the answer r, and the marks, records and output afterwards. Lines and places of debits are counted from 0 here, the number
 -- of a debit in a record from 1. The two statements for one call come first, each in words and then as a type: 1 is proved by `credits_decided` and 2 by
 -- `marks_follow_records`, below them. Those over sequences of calls are in Demand3Sequence. Assumes nothing.
-use Rattle.std.specs.Prelude.{◌≡◌, refl, Bool, true, List, [], ℕ, ◌+◌, ◌-◌, ◌≤◌, ◌<◌, length, get_or}
+use Rattle.std.specs.Prelude.{◌≡◌, refl, Bool, true, List, [], ℕ, ◌+◌, ◌-◌, ◌≤◌, ◌<◌, length, get_or, Ok}
 use Rattle.std.proofs.Common.{sym, ap, ◌∙◌, arith}
 use Rattle.tif.specs.Body.{line_at}
 use Rattle.tif.specs.Name.{name_sender}
@@ -19,7 +19,6 @@ use Rattle.debits.proofs.Demand3Laws.{accepted_or_refused}
 use Rattle.debits.specs.Taking.{agrees, took_debit}
 use Rattle.verdicts.specs.LineTests.{test_line}
 use Rattle.verdicts.specs.Record.{record_of}
-use Rattle.verdicts.specs.declared.line_tests.LineTest.TheVariants.{Passes}
 use Rattle.verdicts.specs.declared.record.Record.{Record}
 use Rattle.verdicts.specs.declared.verdict.Verdict.{Verdict}
 use Rattle.verdicts.specs.declared.verdict.Verdict.TheVariants.{Credits, WrongType, NoDebit}
@@ -50,7 +49,7 @@ pub record PassesOthers (c : Call) (k : ℕ) : Type 0 where
   pub line_by_line : file_of c ≡ Acceptance.Judged whole
   pub there : k < whole.lines
   pub credit : side_of c.tif ≡ Credit
-  pub passing : test_line Credit (name_sender c.name) (known_on (judging_of c) k) (line_at c.tif k) ≡ Passes
+  pub passing : test_line Credit (name_sender c.name) (known_on (judging_of c) k) (line_at c.tif k) ≡ Ok tt
 
 -- an assignment gives line k, and each credit accepted before it in the call's file, a separate agreeing debit of those lent, unmarked when lent
 abbrev pub AssignedIn : Call → ℕ → Type 0
