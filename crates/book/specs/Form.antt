@@ -1,14 +1,12 @@
 -- The form of an agreement book (E5), on any bytes. The width `w` of a period is a parameter. Assumes nothing.
-use Rattle.std.specs.Prelude.{◌≡◌, Bool, true, false, not, ◌&&◌, ◌||◌, cond, List, [], ◌∷◌, ℕ, ◌+◌, ◌-◌, ◌≤◌, ◌<◌, length, eqb, leb}
+use Rattle.std.specs.Prelude.{◌≡◌, Bool, true, false, not, ◌&&◌, ◌||◌, cond, List, [], ◌∷◌, ℕ, ◌+◌, ◌-◌, ◌≤◌, ◌<◌, length, eqb, leb, Ok}
 use Rattle.lines.specs.Below.{all_below}
 use Rattle.lines.specs.Class.{all_of, filled_with}
 use Rattle.lines.specs.FirstOf.{Row, ◌⇒◌, first_of}
 use Rattle.lines.specs.Rows.{line_place}
 use Rattle.lines.specs.Same.{before}
 use Rattle.lines.specs.declared.class.Class.TheVariants.{Digit, Only}
-use Rattle.moment.specs.Moment.{is_real, check_moment}
-use Rattle.moment.specs.declared.Moment.{Moment}
-use Rattle.moment.specs.declared.Moment.TheVariants.{Real}
+use Rattle.moment.specs.Moment.{Checked, is_real, check_moment}
 use Rattle.plate.specs.Plate.{plate_in_book}
 use Rattle.book.specs.Layout.{agreements, entry_layout, pan_of, offset_of, periods_at, period_of, body_end, body_place, plate_part, nation_part, start_part, end_part}
 use Rattle.book.specs.declared.form.PeriodForm.{PeriodForm}
@@ -27,8 +25,8 @@ abbrev pub most_periods : ℕ
 most_periods = 64
 
 -- an end is a real moment; in the last period it may be fourteen nines, meaning none
-unfoldable pub end_form : Bool → List ℕ → Moment
-end_form last end = cond (last && all_of (Only 57) end) Real (check_moment end)
+unfoldable pub end_form : Bool → List ℕ → Checked
+end_form last end = cond (last && all_of (Only 57) end) (Ok tt) (check_moment end)
 
 -- plate and nation as a book has them, a real start, an end, and the start before the end
 abbrev pub period_faults : Bool → List ℕ → List (Row PeriodForm)

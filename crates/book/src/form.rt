@@ -6,14 +6,14 @@ use crate::layout::{
     END, NATION, PERIOD, PLATE, START, agreements_of, offset_of, pan_of, period_of, periods_at,
 };
 use lines::{Class, all_of, field, filled_with, is_before};
-use moment::{Moment, check_moment, is_real};
+use moment::{MomentFault, check_moment};
 use plate::plate_in_book;
 
 // What is wrong with a period by itself. A moment that is not real goes with what is wrong with it.
 #[derive(Clone, Copy)]
 enum PeriodForm {
     InForm,
-    WrongMoment(Moment),
+    WrongMoment(Result<(), MomentFault>),
     OtherFault,
 }
 
@@ -32,14 +32,14 @@ const MOST_AGREEMENTS: usize = 1000;
 const MOST_PERIODS: usize = 64;
 
 // The end of a period, which in the last one may be fourteen nines.
-fn end_form(end: &[u8], last: bool) -> Moment
+fn end_form(end: &[u8], last: bool) -> Result<(), MomentFault>
     ensures { result ≡ end_form last end.now }
 {
     if !last {
         return check_moment(end);
     }
     if all_of(Class::Only(57), end) {
-        return Moment::Real;
+        return Ok(());
     }
     check_moment(end)
 }
@@ -53,11 +53,11 @@ fn period_form(period: &[u8], last: bool) -> PeriodForm
         return PeriodForm::OtherFault;
     }
     let start = check_moment(field(period, START));
-    if !is_real(start) {
+    if !start.is_ok() {
         return PeriodForm::WrongMoment(start);
     }
     let end = end_form(field(period, END), last);
-    if !is_real(end) {
+    if !end.is_ok() {
         return PeriodForm::WrongMoment(end);
     }
     if !is_before(field(period, START), field(period, END)) {

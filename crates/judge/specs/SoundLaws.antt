@@ -1,8 +1,8 @@
 -- What is known of a call that E1 to E6 and E8 let pass, and of its file where it is judged line by line. Assumes nothing.
-use Rattle.std.specs.Prelude.{◌≡◌, ℕ, ◌+◌, ◌*◌, ◌<◌, ◌≤◌, Bool, true, false, cond, not, List, [], ◌∷◌, length, drop, ◌==◌}
+use Rattle.std.specs.Prelude.{◌≡◌, ℕ, ◌+◌, ◌*◌, ◌<◌, ◌≤◌, Bool, true, false, not, List, [], ◌∷◌, length, drop, ◌==◌}
 use Rattle.std.specs.Prelude.{refl}
 use Rattle.std.proofs.Common.{ap, arith, eqb-true}
-use Rattle.std.proofs.lemmas.Bool.{false≢true, not-false}
+use Rattle.std.proofs.lemmas.Bool.{not-false}
 use Rattle.lines.specs.BelowLaws.{table_at}
 use Rattle.lines.specs.BoolLaws.{and_left}
 use Rattle.lines.specs.Class.{all_of}
@@ -10,7 +10,8 @@ use Rattle.lines.specs.FirstOf.{Row, ◌⇒◌, first_of}
 use Rattle.lines.specs.Rows.{line_place, most_lines}
 use Rattle.lines.specs.RowsLaws.{line_ends}
 use Rattle.lines.specs.declared.class.Class.TheVariants.{DigitOrCapital}
-use Rattle.moment.specs.Moment.{is_moment, check_moment, is_real, moment_rows, time_fault}
+use Rattle.moment.specs.Moment.{is_moment}
+use Rattle.moment.specs.MomentLaws.{moment_shows}
 use Rattle.passage.specs.Passage.{line_width}
 use Rattle.tif.specs.Columns.{tif_layout}
 use Rattle.tif.specs.Judged.{JudgedFile}
@@ -54,12 +55,7 @@ last_row other e = e
 
 -- a real moment has fourteen bytes
 moment_long : (s : List ℕ) → is_moment s ≡ true → length s ≡ 14
-unfolding is_moment check_moment first_of
-moment_long s e = go (length s == 14) refl e
-  where
-    go : (b : Bool) → (length s == 14) ≡ b → is_real (cond (not b) Rattle.moment.specs.declared.Moment.Moment.OtherLength (first_of (drop 1 (moment_rows s)) (time_fault s))) ≡ true → length s ≡ 14
-    go true f r = eqb-true (length s) 14 f
-    go false f r = absurd (false≢true r)
+moment_long s e = (moment_shows s e).0
 
 card_long : (lent : Bool) (card : List ℕ) → is_card lent card ≡ true → length card ≡ verdicts_in_use lent * 2
 unfolding is_card
