@@ -38,5 +38,5 @@ returns-in-Err c = fails_judged _ _ _ _ (sym (told (goal.at.returns-in-Err c).Af
 pub returns-in-Ok : goal.returns-in-Ok
 returns-in-Ok c =
     let a = c.args in
-    let e : test_on (judging a.side a.sender.now a.book.now a.debits.now a.tif.now a.tst.now) a.k ≡ Ok tt = sym (told (goal.at.returns-in-Ok c).After-test_line) ∙ (cc) in
+    let e : test_on (judging a.side a.sender.now a.book.now a.debits.now a.tif.now a.tst.now) a.k ≡ Ok tt = sym (told (goal.at.returns-in-Ok c).After-test_line) ∙ c.in-Ok.is in
     passes_judged _ _ _ _ _ e c.judge_passed.ensures
