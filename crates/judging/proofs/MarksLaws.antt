@@ -5,8 +5,7 @@ use Rattle.std.proofs.Common.{sym, ap, ◌∙◌}
 use Rattle.tif.specs.Body.{line_at}
 use Rattle.tif.specs.declared.side.Side.{Side}
 use Rattle.tif.specs.declared.side.Side.TheVariants.{Credit, Debit, Neither}
-use Rattle.cover.specs.declared.cover.Cover.{Cover}
-use Rattle.cover.specs.declared.cover.Cover.TheVariants.{At, Nothing}
+use Rattle.cover.specs.declared.cover.Place.{Place}
 use Rattle.debits.specs.Credits.{marks_after}
 use Rattle.debits.specs.Taking.{marks_then}
 use Rattle.verdicts.specs.LineTestsLaws.{line_refuses}
@@ -20,10 +19,10 @@ credit_debit : (took : Option ℕ) → debit_of (credit_of took) ≡ took
 credit_debit (Some debit) = refl
 credit_debit None = refl
 
-debit_none : (repeated : Bool) (cover : Cover) → debit_of (debit_verdict repeated cover) ≡ None
+debit_none : (repeated : Bool) (cover : Option Place) → debit_of (debit_verdict repeated cover) ≡ None
 debit_none true cover = refl
-debit_none false (At place) = refl
-debit_none false Nothing = refl
+debit_none false (Some place) = refl
+debit_none false None = refl
 
 module _ (j : Judging) (marks : List ℕ) (k : ℕ) where
   -- by the verdict on line k the marks after it are given

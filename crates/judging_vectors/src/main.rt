@@ -7,7 +7,7 @@ ghost use Rattle.book.specs.Layout.{width};
 ghost use Rattle.judging.specs.Steps.{Given};
 ghost use Rattle.judging_vectors.specs.Cases.{Ready};
 
-use book::{BookForm, check_book};
+use book::check_book;
 use debits::debits_sound;
 use frames::{Kind, print_bytes, print_line_feed, print_marks, print_number, read_kind, read_part};
 use judging::{Sums, Tally, judge_lines, sums_of};
@@ -133,10 +133,10 @@ fn run_file(
     tif: &[u8],
 ) -> io::Result<bool> {
     let mut words = [0u64; MOST];
-    match check_book(book) {
-        BookForm::Sound => run_sound(to, name, book, debits, marks, tif, &mut words),
-        BookForm::OutOfForm => Ok(false),
+    if !check_book(book) {
+        return Ok(false);
     }
+    run_sound(to, name, book, debits, marks, tif, &mut words)
 }
 
 // A case of a name, a book, debits, marks and a TIF; false where it breaks off or a part is too long.

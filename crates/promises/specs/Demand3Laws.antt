@@ -12,8 +12,7 @@ use Rattle.lines.specs.BoolLaws.{and_left, and_right}
 use Rattle.tif.specs.Body.{line_at}
 use Rattle.tif.specs.declared.side.Side.{Side}
 use Rattle.tif.specs.declared.side.Side.TheVariants.{Credit, Debit, Neither}
-use Rattle.cover.specs.declared.cover.Cover.{Cover}
-use Rattle.cover.specs.declared.cover.Cover.TheVariants.{At, Nothing}
+use Rattle.cover.specs.declared.cover.Place.{Place}
 use Rattle.debits.specs.Assignment.{Exactly}
 use Rattle.debits.specs.Credits.{marks_after, taken_at, place_at, credit_accepted, credit_refused}
 use Rattle.debits.specs.CreditsLaws.{Accepted, skipped_is, after_length}
@@ -37,10 +36,10 @@ record Apart (v : Verdict) : Type 0 where
 apart_numbered : (v : Verdict) → 0 < verdict_number v → (verdict_number v ≡ 8 → ⊥) → Apart v
 apart_numbered v h l = record { none = refusal_none v h; other = λ e. l (ap verdict_number e) }
 
-apart_debit : (repeated : Bool) (cover : Cover) → Apart (debit_verdict repeated cover)
+apart_debit : (repeated : Bool) (cover : Option Place) → Apart (debit_verdict repeated cover)
 apart_debit true cover = apart_numbered RepeatedLine (omega arith) (omega arith)
-apart_debit false (At place) = record { none = refl; other = λ e. let z : ◌≡◌ {A = ℕ} 0 8 = ap verdict_number e in absurd (omega arith) }
-apart_debit false Nothing = apart_numbered NotCovered (omega arith) (omega arith)
+apart_debit false (Some place) = record { none = refl; other = λ e. let z : ◌≡◌ {A = ℕ} 0 8 = ap verdict_number e in absurd (omega arith) }
+apart_debit false None = apart_numbered NotCovered (omega arith) (omega arith)
 
 -- what L1 to L5 and L9 refuse
 apart_test : (side : Side) (sender : List ℕ) (known : Bool) (line : List ℕ) (v : Verdict) → test_line side sender known line ≡ Err v → Apart v
