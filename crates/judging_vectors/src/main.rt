@@ -14,7 +14,7 @@ use judging::{Sums, Tally, judge_lines, sums_of};
 use lines::field;
 use std::io;
 use std::io::{Read, Write};
-use tif::{Acceptance, NAME_SENDER, acceptance_of, side_of};
+use tif::{NAME_SENDER, acceptance_of, side_of};
 
 // As many lines as a file may bring.
 const MOST: usize = 16;
@@ -105,7 +105,7 @@ fn run_sound(
     if !debits_sound(debits, marks) {
         return Ok(false);
     }
-    let Acceptance::Judged(whole) = acceptance_of(name, &name[0..0], tif) else {
+    let Ok(whole) = acceptance_of(name, &name[0..0], tif) else {
         return Ok(false);
     };
     let n = whole.lines;
