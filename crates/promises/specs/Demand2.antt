@@ -9,7 +9,6 @@ use Rattle.std.proofs.Math.Bool.{not}
 use Rattle.tif.specs.Acceptance.{tif_footer}
 use Rattle.tif.specs.Body.{line_at, body_total}
 use Rattle.tif.specs.Footer.{total_of}
-use Rattle.tif.specs.declared.acceptance.Acceptance.{Acceptance}
 use Rattle.tif.specs.declared.acceptance.Whole.{Whole}
 use Rattle.tic.specs.Listed.{listed_line, shown_line, shown_code}
 use Rattle.tic_parts.specs.Reading.{read_tic}
@@ -133,7 +132,7 @@ module _ (c : Call) (records : List Record) (marks' : List ℕ) (records' : List
     pub amounts : s.accepted_amount.0 + s.refused_amount.0 ≡ total_of (tif_footer c.tif w.lines)
     pub total : s.total.0 ≡ total_of (tif_footer c.tif w.lines)
 
-  pub adds_up : (w : Whole) → file_of c ≡ Acceptance.Judged w → AddsUp w
+  pub adds_up : (w : Whole) → file_of c ≡ Ok w → AddsUp w
   unfolding summary_of
   adds_up w e =
       let file = judged c (check_shows c (shows c records marks' records' out' s j).sound) w e in
