@@ -1,5 +1,5 @@
 -- The text of sound values reads, row by row, as those values. Assumes nothing.
-use Rattle.std.specs.Prelude.{◌≡◌, refl, Bool, true, false, cond, ◌&&◌, not, ℕ, ◌+◌, ◌^◌, ◌≤◌, ◌<◌, length, eqb, ltb, Some}
+use Rattle.std.specs.Prelude.{◌≡◌, refl, Bool, true, false, cond, ◌&&◌, not, ℕ, ◌+◌, ◌^◌, ◌≤◌, ◌<◌, length, eqb, ltb, Ok, Result, Some}
 use Rattle.std.proofs.Common.{sym, ◌∙◌, arith, lit<, eqb-true, leb-true, ltb-false}
 use Rattle.std.proofs.Math.Path.{ap}
 use Rattle.std.proofs.lemmas.Bool.{false≢true}
@@ -27,8 +27,8 @@ use Rattle.tic_text.specs.Text.{Tic, header_text, listed_at, listed_count, foote
 use Rattle.tic_text.specs.TextLaws.{Wide, header_length, listed_at_length, footer_length}
 use Rattle.tic_text.specs.declared.values.TicHead.{TicHead}
 use Rattle.tic_text.specs.declared.values.TicSums.{TicSums}
-use Rattle.tic_text.specs.declared.values.TicReading.{TicReading}
-use Rattle.tic_text.specs.declared.values.TicReading.TheVariants.{Values}
+use Rattle.tic_text.specs.declared.values.TicFault.{TicFault}
+use Rattle.tic_text.specs.declared.values.TicValues.{TicValues}
 
 -- an acceptance that fits is at most 05
 fits_small : (h : TicHead) → acceptance_fits h ≡ true → h.acceptance ≤ 5
@@ -161,7 +161,7 @@ module _ (v : Tic) (s : Sound v) where
       ap (λ (h : TicHead). record { head = h; listed = listed_count v; sums = sums_of (tic_footer (tic_text v) (listed_count v)) }) header_back
       ∙ ap (λ (x : TicSums). record { head = v.head; listed = listed_count v; sums = x }) footer_back
 
-  pub reads : read_tic (tic_text v) ≡ Values (numbers_of v)
+  pub reads : read_tic (tic_text v) ≡ Ok (numbers_of v)
   reads =
       let t : List ℕ = tic_text v in
       sym (read_from t (listed_count v) text_framed
@@ -170,4 +170,4 @@ module _ (v : Tic) (s : Sound v) where
       (past (ap not text_lines)
       (past (ap not (ap footer_formed text_footer ∙ foot_formed v.sums s.fifteen rejected_small))
       (past (ap not text_sums) none))))))
-      ∙ ap {B = TicReading} Values values_back
+      ∙ ap {B = Result TicValues TicFault} Ok values_back

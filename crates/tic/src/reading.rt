@@ -13,28 +13,28 @@ pub fn read_tic(tic: &[u8]) -> TicReading
     ensures { result ≡ read_tic tic.now }
 {
     let Some(n) = framed_lines(TIC, tic) else {
-        return TicReading::Unreadable(TicFault::Framing);
+        return Err(TicFault::Framing);
     };
     let header = header_of(TIC, tic);
     if !header_sound(header) {
-        return TicReading::Unreadable(TicFault::Header);
+        return Err(TicFault::Header);
     }
     let head = head_of(header);
     if !counts_agree(header, head, n) {
-        return TicReading::Unreadable(TicFault::Counts);
+        return Err(TicFault::Counts);
     }
     if !lines_formed(tic, n) {
-        return TicReading::Unreadable(TicFault::ListedLine);
+        return Err(TicFault::ListedLine);
     }
     let footer = footer_of(TIC, tic, n);
     if !footer_formed(footer) {
-        return TicReading::Unreadable(TicFault::Footer);
+        return Err(TicFault::Footer);
     }
     let sums = sums_of(footer);
     if !sums_fit(head, sums, listed_sum(tic, n)) {
-        return TicReading::Unreadable(TicFault::Footer);
+        return Err(TicFault::Footer);
     }
-    TicReading::Values(TicValues {
+    Ok(TicValues {
         head,
         listed: n,
         sums,

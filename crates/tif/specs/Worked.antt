@@ -1,5 +1,5 @@
 -- The worked lines on the sequence of a name, and on 9,999 and 10,000 lines. Assumes nothing.
-use Rattle.std.specs.Prelude.{◌≡◌, refl, true, false, not, List, [], ◌∷◌, ◌++◌, ℕ, length, Option, Some, None}
+use Rattle.std.specs.Prelude.{◌≡◌, refl, true, false, not, List, [], ◌∷◌, ◌++◌, ℕ, length, Err, Option, Some, None}
 use Rattle.std.proofs.Common.{sym, ap}
 use Rattle.lines.specs.Below.{all_below, some_below, first_below}
 use Rattle.lines.specs.Class.{is_digit, is_capital, is_of, byte_is, all_bytes, all_of}
@@ -14,7 +14,7 @@ use Rattle.tif.specs.Acceptance.{is_framed, acceptance_of}
 use Rattle.tif.specs.Columns.{tif_layout}
 use Rattle.tif.specs.Every.{every}
 use Rattle.tif.specs.Received.{is_received}
-use Rattle.tif.specs.declared.acceptance.Acceptance.{Acceptance}
+use Rattle.tif.specs.declared.acceptance.FileFault.{FileFault}
 use Rattle.tif.specs.Name.{is_actor, is_sequence, is_file_stem, is_name}
 
 -- `TIF10012320260615`, a sequence, `_20000_b_130001`
@@ -40,7 +40,7 @@ unfolding line_count count_fits
 most_lines = (refl, refl)
 
 -- so a new file of 10,000 lines gives 05, whatever they hold
-pub ten_thousand : (name names tif : List ℕ) → is_received names name ≡ false → length tif ≡ file_length tif_layout 10000 → acceptance_of name names tif ≡ Acceptance.OutOfForm
+pub ten_thousand : (name names tif : List ℕ) → is_received names name ≡ false → length tif ≡ file_length tif_layout 10000 → acceptance_of name names tif ≡ Err FileFault.OutOfForm
 unfolding acceptance_of count_fits
 ten_thousand name names tif fresh long =
     let out : framed_lines tif_layout tif ≡ None = framed_not_fits tif_layout tif (ap (count_fits tif_layout) long) in

@@ -18,13 +18,6 @@ pub struct Counts {
     pub transactions: Count,
 }
 
-// What a header is found to be.
-#[derive(Clone, Copy)]
-pub enum Header {
-    States(Counts),
-    OutOfForm,
-}
-
 // A name of fewer bytes has no receiver.
 const RECEIVER_END: usize = 28;
 
@@ -74,23 +67,23 @@ fn header_formed(header: &[u8]) -> bool
 
 // The counts that a header states which is of the right form and is that of the named file.
 #[tactic(auto, unfolding(crate::specs::Header::header_of_file, crate::specs::Header::header_sound, crate::specs::Every::every, lines::specs::Number::read_digits))]
-pub fn read_header(name: &[u8], header: &[u8]) -> Header
+pub fn read_header(name: &[u8], header: &[u8]) -> Option<Counts>
     requires { length header.now ≡ header_width }
     ensures { result ≡ header_of_file name.now header.now }
 {
     if !names_file(name, header) {
-        return Header::OutOfForm;
+        return None;
     }
     if !header_formed(header) {
-        return Header::OutOfForm;
+        return None;
     }
     let Some(records) = read_digits(field(header, RECORDS)) else {
-        return Header::OutOfForm;
+        return None;
     };
     let Some(transactions) = read_digits(field(header, TRANSACTIONS)) else {
-        return Header::OutOfForm;
+        return None;
     };
-    Header::States(Counts {
+    Some(Counts {
         records: Count(records),
         transactions: Count(transactions),
     })
