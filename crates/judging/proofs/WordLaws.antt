@@ -1,6 +1,6 @@
 -- What each verdict carries fits its word, so that the word gives the verdict back; and L9 is in use only where a station table is lent. Assumes nothing.
 -- These laws stand here and not in specs/, since they rest on `fails_verdict` and `passes_verdict`, which wrong tests of a line make false: a must-fail edit counts only where nothing in specs/ rests on what it makes false.
-use Rattle.std.specs.Prelude.{◌≡◌, refl, Bool, true, false, ◌&&◌, cond, List, ℕ, ◌+◌, ◌≤◌, ◌<◌, length, ltb, Option, Some, None}
+use Rattle.std.specs.Prelude.{◌≡◌, refl, Bool, true, false, ◌&&◌, cond, List, ℕ, ◌+◌, ◌≤◌, ◌<◌, length, ltb, Result, Ok, Err, Option, Some, None}
 use Rattle.std.proofs.Common.{sym, ap, ◌∙◌, arith, ltb-true}
 use Rattle.lines.specs.Rows.{most_lines}
 use Rattle.tif.specs.Body.{line_at}
@@ -20,8 +20,7 @@ use Rattle.verdicts.specs.LineTests.{test_line}
 use Rattle.verdicts.specs.LineTestsLaws.{line_refuses, known_number}
 use Rattle.verdicts.specs.Verdict.{verdict_number, verdict_of, Placed, InWord}
 use Rattle.verdicts.specs.VerdictLaws.{refusal_fits, word_back}
-use Rattle.verdicts.specs.declared.line_tests.LineTest.{LineTest}
-use Rattle.verdicts.specs.declared.line_tests.LineTest.TheVariants.{Fails, Passes}
+use Rattle.verdicts.specs.declared.verdict.Verdict.{Verdict}
 use Rattle.verdicts.specs.declared.verdict.Verdict.TheVariants.{Covered, Credits, WrongType, RepeatedLine, NotCovered, NoDebit}
 use Rattle.judging.specs.Judging.{Judging, repeated_at, cover_on, covered_by, credit_of, passed_verdict, taken_on, known_on, test_on, verdict_on, reaches_at, marks_before, verdict_at, word_at}
 use Rattle.judging.specs.StepLaws.{passed_credit, passed_debit, passed_neither, fails_verdict, passes_verdict}
@@ -85,9 +84,9 @@ module _ (j : Judging) (marks : List ℕ) (k : ℕ) (s : book_sound width j.book
   pub verdict_fits : InWord (verdict_on j marks k)
   verdict_fits = go (test_on j k) refl
     where
-      go : (t : LineTest) → test_on j k ≡ t → InWord (verdict_on j marks k)
-      go (Fails v) e = rw (sym (fails_verdict j marks k v e)) (refusal_fits v (line_refuses j.side j.sender (known_on j k) (line_at j.tif k) v e))
-      go Passes e = rw (passes_verdict j marks k e) (passed_fits j.side (repeated_at j.tif k))
+      go : (t : Result (Unit {0}) Verdict) → test_on j k ≡ t → InWord (verdict_on j marks k)
+      go (Err v) e = rw (sym (fails_verdict j marks k v e)) (refusal_fits v (line_refuses j.side j.sender (known_on j k) (line_at j.tif k) v e))
+      go (Ok tt) e = rw (passes_verdict j marks k e) (passed_fits j.side (repeated_at j.tif k))
 
 -- the word of a line gives its verdict back
 pub word_verdict : (j : Judging) (marks : List ℕ) (k : ℕ) → book_sound width j.book ≡ true → length marks ≤ most_lines → verdict_of (word_at j marks k) ≡ verdict_at j marks k
@@ -119,6 +118,6 @@ unlent_number j marks k e = go (test_on j k) refl
     known : test_on j k ≡ test_line j.side j.sender true (line_at j.tif k)
     known = ap (λ (b : Bool). test_line j.side j.sender b (line_at j.tif k)) (unlent_known j.tst (line_at j.tif k) e)
 
-    go : (t : LineTest) → test_on j k ≡ t → verdict_number (verdict_on j marks k) < 9
-    go (Fails v) f = rw (sym (fails_verdict j marks k v f)) (omega (arith, known_number j.side j.sender (line_at j.tif k) v (sym known ∙ f)))
-    go Passes f = rw (passes_verdict j marks k f) (passed_number j.side (repeated_at j.tif k) (cover_on j.book (line_at j.tif k)) (taken_on j marks k))
+    go : (t : Result (Unit {0}) Verdict) → test_on j k ≡ t → verdict_number (verdict_on j marks k) < 9
+    go (Err v) f = rw (sym (fails_verdict j marks k v f)) (omega (arith, known_number j.side j.sender (line_at j.tif k) v (sym known ∙ f)))
+    go (Ok tt) f = rw (passes_verdict j marks k f) (passed_number j.side (repeated_at j.tif k) (cover_on j.book (line_at j.tif k)) (taken_on j marks k))

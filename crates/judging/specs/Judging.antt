@@ -1,5 +1,5 @@
 -- The verdict on each line of a file, L1 to L9, and the marks after each. Lines are counted from 0 here. Assumes nothing.
-use Rattle.std.specs.Prelude.{Bool, true, false, not, ◌&&◌, cond, List, [], ◌∷◌, ◌++◌, ℕ, Option, Some, None}
+use Rattle.std.specs.Prelude.{Bool, true, false, not, ◌&&◌, cond, List, [], ◌∷◌, ◌++◌, ℕ, Result, Option, Some, None}
 use Rattle.lines.specs.Below.{some_below, table_below}
 use Rattle.lines.specs.FirstOf.{Row, ◌⇒◌, first_of}
 use Rattle.lines.specs.Spans.{agree_on}
@@ -14,7 +14,6 @@ use Rattle.cover.specs.declared.cover.Place.{Place}
 use Rattle.debits.specs.Credits.{marks_after}
 use Rattle.debits.specs.Taking.{taken, took_debit, marks_then}
 use Rattle.verdicts.specs.LineTests.{line_rows, test_line, passes}
-use Rattle.verdicts.specs.declared.line_tests.LineTest.{LineTest}
 use Rattle.verdicts.specs.Verdict.{word_of}
 use Rattle.verdicts.specs.declared.verdict.Verdict.{Verdict}
 use Rattle.verdicts.specs.declared.verdict.Verdict.TheVariants.{Covered, Credits, WrongType, RepeatedLine, NotCovered, NoDebit}
@@ -98,7 +97,7 @@ abbrev pub known_on : Judging → ℕ → Bool
 known_on j k = is_known_station j.tst (line_at j.tif k)
 
 -- the first test that line k fails before those that look at the file, the book and the debits
-abbrev pub test_on : Judging → ℕ → LineTest
+abbrev pub test_on : Judging → ℕ → Result (Unit {0}) Verdict
 test_on j k = test_line j.side j.sender (known_on j k) (line_at j.tif k)
 
 -- all the tests of line k in order, where the marks are these

@@ -17,7 +17,7 @@ use lines::{agree_on, field};
 use passage::{DETECTED_NATION, DETECTED_PLATE, EXIT_MOMENT, PAN, REPEAT_SPANS};
 use tif::{Side, tif_line};
 use tst::is_known_station;
-use verdicts::{LineTest, Verdict, test_line};
+use verdicts::{Verdict, test_line};
 
 // Whether line i agrees with line k on what two lines of one file must not share.
 fn repeats(tif: &[u8], k: usize, i: usize) -> bool
@@ -118,7 +118,7 @@ pub fn judge_line(
     let line = tif_line(tif, k);
     let known = is_known_station(tst, stations, line);
     match test_line(line, side, sender, known) {
-        LineTest::Fails(v) => v,
-        LineTest::Passes => judge_passed(side, book, debits, marks, tif, k),
+        Err(v) => v,
+        Ok(()) => judge_passed(side, book, debits, marks, tif, k),
     }
 }

@@ -19,7 +19,6 @@ use Rattle.debits.proofs.Demand3Laws.{accepted_or_refused}
 use Rattle.debits.specs.Taking.{agrees, took_debit}
 use Rattle.verdicts.specs.LineTests.{test_line}
 use Rattle.verdicts.specs.Record.{record_of}
-use Rattle.verdicts.specs.declared.line_tests.LineTest.TheVariants.{Passes}
 use Rattle.verdicts.specs.declared.record.Record.{Record}
 use Rattle.verdicts.specs.declared.verdict.Verdict.{Verdict}
 use Rattle.verdicts.specs.declared.verdict.Verdict.TheVariants.{Credits, WrongType, NoDebit}
@@ -50,7 +49,7 @@ pub record PassesOthers (c : Call) (k : ℕ) : Type 0 where
   pub line_by_line : file_of c ≡ Ok whole
   pub there : k < whole.lines
   pub credit : side_of c.tif ≡ Credit
-  pub passing : test_line Credit (name_sender c.name) (known_on (judging_of c) k) (line_at c.tif k) ≡ Passes
+  pub passing : test_line Credit (name_sender c.name) (known_on (judging_of c) k) (line_at c.tif k) ≡ Ok tt
 
 -- an assignment gives line k, and each credit accepted before it in the call's file, a separate agreeing debit of those lent, unmarked when lent
 abbrev pub AssignedIn : Call → ℕ → Type 0

@@ -1,8 +1,7 @@
 -- What becomes of a file before its lines are judged: 02, then 05, then 03, then 04. Assumes nothing.
-use Rattle.std.specs.Prelude.{Bool, true, false, not, cond, List, [], ◌∷◌, ℕ, eqb, Result, Ok, Err}
+use Rattle.std.specs.Prelude.{Bool, true, false, not, cond, List, [], ◌∷◌, ℕ, eqb, Result, Ok, Err, Option, Some, None}
 use Rattle.lines.specs.FirstOf.{Row, ◌⇒◌, first_of}
 use Rattle.lines.specs.Rows.{header_of, footer_of, framed_lines}
-use Rattle.lines.specs.declared.rows.Lines.{Lines}
 use Rattle.tif.specs.Body.{gross_of, body_sound, body_total}
 use Rattle.tif.specs.Columns.{tif_layout}
 use Rattle.tif.specs.Footer.{footer_sound, total_of}
@@ -17,14 +16,14 @@ abbrev pub Acceptance : Type 0
 Acceptance = Result Whole FileFault
 
 -- length and line feeds are right, for some number of lines from 0 to 9,999
-abbrev pub is_framed : Lines → Bool
-is_framed (Lines.Of n) = true
-is_framed Lines.OutOfForm = false
+abbrev pub is_framed : Option ℕ → Bool
+is_framed (Some n) = true
+is_framed None = false
 
 -- that number
-abbrev pub framed_count : Lines → ℕ
-framed_count (Lines.Of n) = n
-framed_count Lines.OutOfForm = 0
+abbrev pub framed_count : Option ℕ → ℕ
+framed_count (Some n) = n
+framed_count None = 0
 
 abbrev pub tif_lines : List ℕ → ℕ
 tif_lines tif = framed_count (framed_lines tif_layout tif)

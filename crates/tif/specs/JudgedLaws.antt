@@ -1,5 +1,5 @@
 -- What it shows of a file that it is to be judged line by line. Assumes nothing.
-use Rattle.std.specs.Prelude.{◌≡◌, refl, Bool, true, false, ◌&&◌, List, [], ◌∷◌, ℕ, ◌≤◌, ◌<◌, length, take, eqb, ltb, Ok, Err}
+use Rattle.std.specs.Prelude.{◌≡◌, refl, Bool, true, false, ◌&&◌, List, [], ◌∷◌, ℕ, ◌≤◌, ◌<◌, length, take, eqb, ltb, Ok, Err, Option, Some, None}
 use Rattle.std.proofs.Common.{sym, ap, ◌∙◌, arith, length-take-le}
 use Rattle.std.proofs.lemmas.Bool.{false≢true}
 use borrow.Author.Tests.{eqb-true, not-false, le-ltb}
@@ -12,7 +12,6 @@ use Rattle.lines.specs.Rows.{header_of, one_feed, line_feed_at, feeds_stand, fra
 use Rattle.lines.specs.RowsLaws.{Framed, framed_is, line_ends, line_length}
 use Rattle.lines.specs.Same.{same}
 use Rattle.lines.specs.SameLaws.{same_is}
-use Rattle.lines.specs.declared.rows.Lines.{Lines}
 use Rattle.tif.specs.Acceptance.{Acceptance, is_framed, framed_count, tif_lines, tif_header, tif_footer, whole_of, acceptance_of}
 use Rattle.tif.specs.Body.{line_at, line_sound, line_sound_at, body_sound, body_total}
 use Rattle.tif.specs.BodyLaws.{sum_small}
@@ -44,9 +43,9 @@ whole_is : (v w : Whole) → first_of {A = Acceptance} [] (Ok v) ≡ Ok w → v 
 unfolding first_of
 whole_is v w e = cc
 
-framed_of : (l : Lines) → is_framed l ≡ true → l ≡ Lines.Of (framed_count l)
-framed_of (Lines.Of n) e = refl
-framed_of Lines.OutOfForm e = absurd (false≢true e)
+framed_of : (l : Option ℕ) → is_framed l ≡ true → l ≡ Some (framed_count l)
+framed_of (Some n) e = refl
+framed_of None e = absurd (false≢true e)
 
 -- columns 74 to 76 of the file are those of its header
 side_if : Bool → List ℕ → Side
@@ -102,7 +101,7 @@ unfolding body_sound body_total
 total_small tif n h e = omega (arith, sum_small tif n e)
 
 -- what the rows show of a file of n lines, once none applies
-judged_at : (name names tif : List ℕ) (n : ℕ) → is_received names name ≡ false → framed_lines tif_layout tif ≡ Lines.Of n → header_sound name (tif_header tif) ≡ true
+judged_at : (name names tif : List ℕ) (n : ℕ) → is_received names name ≡ false → framed_lines tif_layout tif ≡ Some n → header_sound name (tif_header tif) ≡ true
     → body_sound tif n ≡ true → footer_sound (tif_footer tif n) ≡ true → counts_agree (records_of (tif_header tif)) (transactions_of (tif_header tif)) n ≡ true
     → eqb (total_of (tif_footer tif n)) (body_total tif n) ≡ true → JudgedFile name names tif (whole_of tif n)
 judged_at name names tif n fresh frame header body footer counts total =

@@ -6,7 +6,7 @@ use crate::columns::TIF;
 use crate::footer::footer_amount;
 use crate::header::{counts_agree, read_header};
 use crate::received::is_received;
-use lines::{Count, Gross, Lines, footer_of, framed_lines, header_of};
+use lines::{Count, Gross, footer_of, framed_lines, header_of};
 
 // A file that is to be judged line by line: its lines and the exact sum of their amounts with VAT.
 #[derive(Clone, Copy)]
@@ -32,7 +32,7 @@ pub fn acceptance_of(name: &[u8], names: &[u8], tif: &[u8]) -> Result<Whole, Fil
     if is_received(names, name) {
         return Err(FileFault::AlreadyReceived);
     }
-    let Lines::Of(n) = framed_lines(TIF, tif) else {
+    let Some(n) = framed_lines(TIF, tif) else {
         return Err(FileFault::OutOfForm);
     };
     let counts = read_header(name, header_of(TIF, tif)).ok_or(FileFault::OutOfForm)?;
@@ -41,7 +41,7 @@ pub fn acceptance_of(name: &[u8], names: &[u8], tif: &[u8]) -> Result<Whole, Fil
     if !counts_agree(counts, Count(n as u64)) {
         return Err(FileFault::CountsDiffer);
     }
-    if !total.equals(sum) {
+    if total != sum {
         return Err(FileFault::TotalDiffers);
     }
     Ok(Whole {

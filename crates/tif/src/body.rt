@@ -5,7 +5,7 @@ ghost use Rattle.tif.specs.Columns.{tif_layout};
 ghost use Rattle.tif.specs.Body.{line_amount, body_amount};
 
 use crate::reader::tif_line;
-use lines::{Digits, Gross, field, read_digits};
+use lines::{Gross, field, read_digits};
 use passage::GROSS_AMOUNT;
 
 // The amount with VAT of a line, where it is of the right form.
@@ -17,7 +17,7 @@ pub fn line_amount(line: &[u8]) -> Option<Gross>
     if line[0] != b'1' {
         return None;
     }
-    let Digits::Value(v) = read_digits(field(line, GROSS_AMOUNT)) else {
+    let Some(v) = read_digits(field(line, GROSS_AMOUNT)) else {
         return None;
     };
     Some(Gross(v))

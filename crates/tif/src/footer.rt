@@ -3,7 +3,7 @@ ghost use Rattle.tif.specs.Columns.{footer_width};
 ghost use Rattle.tif.specs.Footer.{footer_amount};
 
 use crate::columns::{FOOTER_FILLER, TOTAL};
-use lines::{Class, Digits, Gross, all_of, field, read_digits};
+use lines::{Class, Gross, all_of, field, read_digits};
 
 // The total of a footer, where it is of the right form.
 #[tactic(auto, unfolding(crate::specs::Footer::footer_amount, crate::specs::Footer::footer_sound, crate::specs::Every::every, crate::specs::Body::amount_if, lines::specs::Number::read_digits))]
@@ -17,7 +17,7 @@ pub fn footer_amount(footer: &[u8]) -> Option<Gross>
     if !all_of(Class::Only(48), field(footer, FOOTER_FILLER)) {
         return None;
     }
-    let Digits::Value(v) = read_digits(field(footer, TOTAL)) else {
+    let Some(v) = read_digits(field(footer, TOTAL)) else {
         return None;
     };
     Some(Gross(v))

@@ -8,7 +8,7 @@ use crate::columns::{
 };
 use crate::name::{NAME_IDENTITY, NAME_RECEIVER, NAME_SENDER, VERSION};
 use crate::side::{is_sided, side_of};
-use lines::{Class, Count, Digits, all_of, field, is_same, read_digits};
+use lines::{Class, Count, all_of, field, is_same, read_digits};
 use moment::is_moment;
 
 // How many records and transactions a header states.
@@ -21,7 +21,8 @@ pub struct Counts {
 // A name of fewer bytes has no receiver.
 const RECEIVER_END: usize = 28;
 
-const NOK: [u8; 3] = [78, 79, 75];
+// The one currency.
+pub const NOK: [u8; 3] = *b"NOK";
 
 // Whether the header begins as one, and has sender, receiver and sequence as the file's name has them.
 #[tactic(auto, unfolding(crate::specs::Header::names_file, crate::specs::Every::every))]
@@ -77,10 +78,10 @@ pub fn read_header(name: &[u8], header: &[u8]) -> Option<Counts>
     if !header_formed(header) {
         return None;
     }
-    let Digits::Value(records) = read_digits(field(header, RECORDS)) else {
+    let Some(records) = read_digits(field(header, RECORDS)) else {
         return None;
     };
-    let Digits::Value(transactions) = read_digits(field(header, TRANSACTIONS)) else {
+    let Some(transactions) = read_digits(field(header, TRANSACTIONS)) else {
         return None;
     };
     Some(Counts {
@@ -96,11 +97,11 @@ pub fn counts_agree(counts: Counts, lines: Count) -> bool
 {
     let records = counts.records;
     let transactions = counts.transactions;
-    if !records.equals(lines) {
+    if records != lines {
         return false;
     }
-    if transactions.equals(Count(0)) {
+    if transactions == Count(0) {
         return true;
     }
-    transactions.equals(lines)
+    transactions == lines
 }

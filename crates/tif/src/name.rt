@@ -1,7 +1,7 @@
 ghost use Rattle.std.specs.Prelude.{◌≡◌, ◌≤◌, length};
 ghost use Rattle.tif.specs.Name.{is_actor, is_sequence, is_file_stem, is_name};
 
-use lines::{Class, Columns, Digits, all_of, field, is_same, read_digits};
+use lines::{Class, Columns, all_of, field, is_same, read_digits};
 use moment::is_date;
 
 // The parts of a file stem: what stands between the kind and the receiver.
@@ -31,9 +31,9 @@ const FIRST_JOINT: usize = 21;
 const SECOND_JOINT: usize = 28;
 
 // The kind of file and the version that every name and header carries.
-pub const TIF_KIND: [u8; 3] = [84, 73, 70];
+pub const TIF_KIND: [u8; 3] = *b"TIF";
 
-pub const VERSION: [u8; 6] = [49, 51, 48, 48, 48, 49];
+pub const VERSION: [u8; 6] = *b"130001";
 
 // Whether the text is an actor: six digits or capitals.
 #[tactic(auto, unfolding(crate::specs::Name::is_actor))]
@@ -52,7 +52,7 @@ fn is_sequence(s: &[u8]) -> bool
     requires { length s.now ≤ 15 }
     ensures { result ≡ is_sequence s.now }
 {
-    let Digits::Value(v) = read_digits(s) else {
+    let Some(v) = read_digits(s) else {
         return false;
     };
     v != 0
