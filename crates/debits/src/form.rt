@@ -33,7 +33,7 @@ fn debit_sound(line: &[u8]) -> bool
 }
 
 // Whether each of n lines can be an open debit.
-#[tactic(auto, using(lines::specs::BelowLaws::all_zero, lines::specs::BelowLaws::all_more, lines::specs::BelowLaws::all_fails, crate::specs::FormLaws::debit_ends, crate::specs::FormLaws::debit_length), unfolding(crate::specs::Form::lines_sound, crate::specs::Form::debit_sound_at))]
+#[tactic(auto, using(lines::specs::BelowLaws::all_zero, lines::specs::BelowLaws::all_more, crate::specs::FormLaws::debit_ends, crate::specs::FormLaws::debit_length), unfolding(crate::specs::Form::lines_sound, crate::specs::Form::debit_sound_at))]
 fn lines_sound(debits: &[u8], n: usize) -> bool
     requires { n * line_width ≤ length debits.now }
     ensures { result ≡ lines_sound debits.now n }
