@@ -19,3 +19,4 @@ pub mod Splice
 pub mod SpliceLaws
 pub mod Rows
 pub mod RowsLaws
+pub mod OverRange
