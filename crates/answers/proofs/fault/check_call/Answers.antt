@@ -5,7 +5,7 @@ use Rattle.lines.specs.FirstOf.{Picks, picked, here, past, none}
 use Rattle.tst.specs.Form.{is_lent}
 use Rattle.answers.specs.Card.{is_card}
 use Rattle.answers.specs.Fault.{check_call, call_rows}
-use Rattle.answers.specs.declared.answer.CallCheck.{CallCheck}
+use Rattle.answers.specs.Answer.{CallCheck}
 use Rattle.answers.proofs.fault.check_call.Goals as goal
 use Rattle.answers.proofs.fault.check_call.Goals.{After-is_card, Else-not-is_card, Else-not-is_moment, Else-not-is_name, Else-not-names_whole}
 

@@ -1,5 +1,6 @@
 use Rattle.book.specs.declared.form.BookForm.TheVariants.{Sound, OutOfForm}
 use Prim.Native.Nat.{ℕ}
+use Rattle.std.specs.Prelude.{Ok}
 use mathlib.Core.Path.{◌≡◌, refl, sym, ap, ◌∙◌}
 use mathlib.Core.Bool.{Bool, true, false, not, cond}
 use mathlib.Core.List.{List}
@@ -8,7 +9,7 @@ use Rattle.lines.specs.FirstOf.{Picks, picked, here, past, none}
 use Rattle.book.specs.Form.{book_form, book_sound}
 use Rattle.book.specs.Layout.{width}
 use Rattle.answers.specs.Fault.{check_lent, lent_rows, is_sound}
-use Rattle.answers.specs.declared.answer.CallCheck.{CallCheck}
+use Rattle.answers.specs.Answer.{CallCheck}
 use Rattle.answers.proofs.fault.check_lent.Goals as goal
 use Rattle.answers.proofs.fault.check_lent.Goals.{After-is_sound, Else-not-debits_sound, Else-not-is_sound}
 
@@ -24,10 +25,10 @@ sound_is book = go (book_sound width book)
 book_told : (c : After-is_sound) → c.is_sound.result ≡ book_sound width c.args.book.now
 book_told c = c.is_sound.ensures ∙ ap is_sound c.check_book.ensures ∙ sound_is _
 
-after1 : (c : Else-not-is_sound) {r : CallCheck} → Picks (drop 1 (lent_rows c.args.book.now c.args.debits.now c.args.marks.now c.args.tst.now)) CallCheck.Sound r → Picks (lent_rows c.args.book.now c.args.debits.now c.args.marks.now c.args.tst.now) CallCheck.Sound r
+after1 : (c : Else-not-is_sound) {r : CallCheck} → Picks (drop 1 (lent_rows c.args.book.now c.args.debits.now c.args.marks.now c.args.tst.now)) (Ok tt) r → Picks (lent_rows c.args.book.now c.args.debits.now c.args.marks.now c.args.tst.now) (Ok tt) r
 after1 c p = past (ap not (sym (c.is_sound.ensures ∙ ap is_sound c.check_book.ensures ∙ sound_is _)) ∙ c.if-not-is_sound.false-raw) p
 
-after2 : (c : Else-not-debits_sound) {r : CallCheck} → Picks (drop 2 (lent_rows c.args.book.now c.args.debits.now c.args.marks.now c.args.tst.now)) CallCheck.Sound r → Picks (lent_rows c.args.book.now c.args.debits.now c.args.marks.now c.args.tst.now) CallCheck.Sound r
+after2 : (c : Else-not-debits_sound) {r : CallCheck} → Picks (drop 2 (lent_rows c.args.book.now c.args.debits.now c.args.marks.now c.args.tst.now)) (Ok tt) r → Picks (lent_rows c.args.book.now c.args.debits.now c.args.marks.now c.args.tst.now) (Ok tt) r
 after2 c p = (past (ap not (sym (c.is_sound.ensures ∙ ap is_sound c.check_book.ensures ∙ sound_is _)) ∙ c.if-not-is_sound.false-raw) (past (ap not (sym c.debits_sound.ensures) ∙ c.if-not-debits_sound.false-raw) p))
 
 pub returns-then-not-is_sound : goal.returns-then-not-is_sound
