@@ -8,14 +8,9 @@ use Rattle.tst.specs.Form.{is_lent, table_sound}
 use Rattle.book.specs.Form.{book_sound}
 use Rattle.book.specs.Layout.{width}
 use Rattle.debits.specs.Form.{debits_sound}
-use Rattle.book.specs.declared.form.BookForm.{BookForm}
 use Rattle.answers.specs.Card.{is_card}
 use Rattle.answers.specs.Answer.{CallCheck}
 use Rattle.answers.specs.declared.answer.CallFault.TheVariants.{FileName, ReceptionMoment, CodeCard, ReceivedNames, Book, OpenDebits, StationTable}
-
-abbrev pub is_sound : BookForm → Bool
-is_sound BookForm.Sound = true
-is_sound BookForm.OutOfForm = false
 
 -- E5 the book, E6 open debits and marks, E8 the station table
 abbrev pub lent_rows : List ℕ → List ℕ → List ℕ → List ℕ → List (Row CallCheck)

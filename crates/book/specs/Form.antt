@@ -1,20 +1,16 @@
 -- The form of an agreement book (E5), on any bytes. The width `w` of a period is a parameter. Assumes nothing.
-use Rattle.std.specs.Prelude.{◌≡◌, Bool, true, false, not, ◌&&◌, ◌||◌, cond, List, [], ◌∷◌, ℕ, ◌+◌, ◌-◌, ◌≤◌, ◌<◌, length, eqb, leb}
+use Rattle.std.specs.Prelude.{◌≡◌, Bool, true, false, not, ◌&&◌, ◌||◌, cond, List, [], ◌∷◌, ℕ, ◌+◌, ◌-◌, ◌≤◌, ◌<◌, length, eqb, leb, Ok}
 use Rattle.lines.specs.Below.{all_below}
 use Rattle.lines.specs.Class.{all_of, filled_with}
 use Rattle.lines.specs.FirstOf.{Row, ◌⇒◌, first_of}
 use Rattle.lines.specs.Rows.{line_place}
 use Rattle.lines.specs.Same.{before}
 use Rattle.lines.specs.declared.class.Class.TheVariants.{Digit, Only}
-use Rattle.moment.specs.Moment.{is_real, check_moment}
-use Rattle.moment.specs.declared.Moment.{Moment}
-use Rattle.moment.specs.declared.Moment.TheVariants.{Real}
+use Rattle.moment.specs.Moment.{Checked, is_real, check_moment}
 use Rattle.plate.specs.Plate.{plate_in_book}
 use Rattle.book.specs.Layout.{agreements, entry_layout, pan_of, offset_of, periods_at, period_of, body_end, body_place, plate_part, nation_part, start_part, end_part}
 use Rattle.book.specs.declared.form.PeriodForm.{PeriodForm}
 use Rattle.book.specs.declared.form.PeriodForm.TheVariants.{InForm, WrongMoment, OtherFault}
-use Rattle.book.specs.declared.form.BookForm.{BookForm}
-use Rattle.book.specs.declared.form.BookForm.TheVariants.{Sound, OutOfForm}
 
 -- no book has more bytes, no book more agreements, no agreement more periods
 abbrev pub most_bytes : ℕ
@@ -27,8 +23,8 @@ abbrev pub most_periods : ℕ
 most_periods = 64
 
 -- an end is a real moment; in the last period it may be fourteen nines, meaning none
-unfoldable pub end_form : Bool → List ℕ → Moment
-end_form last end = cond (last && all_of (Only 57) end) Real (check_moment end)
+unfoldable pub end_form : Bool → List ℕ → Checked
+end_form last end = cond (last && all_of (Only 57) end) (Ok tt) (check_moment end)
 
 -- plate and nation as a book has them, a real start, an end, and the start before the end
 abbrev pub period_faults : Bool → List ℕ → List (Row PeriodForm)
@@ -99,9 +95,6 @@ head_sound book =
 
 unfoldable pub book_sound : ℕ → List ℕ → Bool
 book_sound w book = head_sound book && (entries_sound book && bodies_sound w book)
-
-unfoldable pub book_form : ℕ → List ℕ → BookForm
-book_form w book = cond (book_sound w book) Sound OutOfForm
 
 -- what a sound head shows
 pub record Headed (book : List ℕ) : Type 0 where

@@ -1,27 +1,20 @@
 ghost use Rattle.std.specs.Prelude.{◌≡◌, true, ◌+◌, ◌*◌, ◌≤◌, ◌<◌, length};
 ghost use Rattle.book.specs.Layout.{agreements, entry_end, period_end, body_of, width};
-ghost use Rattle.book.specs.Form.{end_form, period_form, in_form, follows_at, period_sound_at, periods_sound, body_sound, rises_at, entry_sound_at, entries_sound, agreement_sound, bodies_sound, head_sound, book_form, Headed};
+ghost use Rattle.book.specs.Form.{end_form, period_form, in_form, follows_at, period_sound_at, periods_sound, body_sound, rises_at, entry_sound_at, entries_sound, agreement_sound, bodies_sound, head_sound, book_sound, Headed};
 
 use crate::layout::{
     END, NATION, PERIOD, PLATE, START, agreements_of, offset_of, pan_of, period_of, periods_at,
 };
 use lines::{Class, all_of, field, filled_with, is_before};
-use moment::{Moment, check_moment, is_real};
+use moment::{MomentFault, check_moment};
 use plate::plate_in_book;
 
 // What is wrong with a period by itself. A moment that is not real goes with what is wrong with it.
 #[derive(Clone, Copy)]
 enum PeriodForm {
     InForm,
-    WrongMoment(Moment),
+    WrongMoment(Result<(), MomentFault>),
     OtherFault,
-}
-
-// Whether a book is of the form of the paper (E5).
-#[derive(Clone, Copy)]
-pub enum BookForm {
-    Sound,
-    OutOfForm,
 }
 
 // A book has at most so many bytes, agreements, and periods of one agreement.
@@ -32,14 +25,14 @@ const MOST_AGREEMENTS: usize = 1000;
 const MOST_PERIODS: usize = 64;
 
 // The end of a period, which in the last one may be fourteen nines.
-fn end_form(end: &[u8], last: bool) -> Moment
+fn end_form(end: &[u8], last: bool) -> Result<(), MomentFault>
     ensures { result ≡ end_form last end.now }
 {
     if !last {
         return check_moment(end);
     }
     if all_of(Class::Only(57), end) {
-        return Moment::Real;
+        return Ok(());
     }
     check_moment(end)
 }
@@ -53,11 +46,11 @@ fn period_form(period: &[u8], last: bool) -> PeriodForm
         return PeriodForm::OtherFault;
     }
     let start = check_moment(field(period, START));
-    if !is_real(start) {
+    if !start.is_ok() {
         return PeriodForm::WrongMoment(start);
     }
     let end = end_form(field(period, END), last);
-    if !is_real(end) {
+    if !end.is_ok() {
         return PeriodForm::WrongMoment(end);
     }
     if !is_before(field(period, START), field(period, END)) {
@@ -223,17 +216,9 @@ fn head_sound(book: &[u8]) -> bool
 }
 
 // Whether the bytes are a book (E5).
-pub fn check_book(book: &[u8]) -> BookForm
-    ensures { result ≡ book_form width book.now }
+#[tactic(auto, using(crate::specs::FormLaws::head_is), unfolding(crate::specs::Form::book_sound))]
+pub fn check_book(book: &[u8]) -> bool
+    ensures { result ≡ book_sound width book.now }
 {
-    if !head_sound(book) {
-        return BookForm::OutOfForm;
-    }
-    if !entries_sound(book) {
-        return BookForm::OutOfForm;
-    }
-    if !bodies_sound(book) {
-        return BookForm::OutOfForm;
-    }
-    BookForm::Sound
+    head_sound(book) && entries_sound(book) && bodies_sound(book)
 }

@@ -1,6 +1,5 @@
 use frames::{print_bytes, print_number};
-use lines::Digits;
-use moment::{Moment, MomentPart};
+use moment::{MomentFault, MomentPart};
 use std::io;
 use std::io::Write;
 
@@ -17,11 +16,11 @@ fn part_number(part: MomentPart) -> u64 {
 }
 
 // 0 for a real moment, 1 for another length, else the number of the first wrong part.
-pub fn print_moment(to: &mut impl Write, answer: Moment) -> io::Result<()> {
+pub fn print_moment(to: &mut impl Write, answer: Result<(), MomentFault>) -> io::Result<()> {
     match answer {
-        Moment::Real => print_number(to, 0),
-        Moment::OtherLength => print_number(to, 1),
-        Moment::Wrong(part) => print_number(to, part_number(part)),
+        Ok(()) => print_number(to, 0),
+        Err(MomentFault::OtherLength) => print_number(to, 1),
+        Err(MomentFault::Wrong(part)) => print_number(to, part_number(part)),
     }
 }
 
@@ -35,9 +34,9 @@ pub fn print_plate(to: &mut impl Write, plate: &[u8], nation: &[u8]) -> io::Resu
     print_truth(to, plate::plate_in_book(plate, nation))
 }
 
-pub fn print_digits(to: &mut impl Write, answer: Digits) -> io::Result<()> {
+pub fn print_digits(to: &mut impl Write, answer: Option<u64>) -> io::Result<()> {
     match answer {
-        Digits::Value(v) => print_number(to, v),
-        Digits::NotDigits => print_bytes(to, b"-"),
+        Some(v) => print_number(to, v),
+        None => print_bytes(to, b"-"),
     }
 }

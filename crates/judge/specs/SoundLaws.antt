@@ -2,7 +2,7 @@
 use Rattle.std.specs.Prelude.{◌≡◌, ℕ, ◌+◌, ◌*◌, ◌<◌, ◌≤◌, Bool, true, false, cond, not, List, [], ◌∷◌, length, drop, ◌==◌, Ok, Err}
 use Rattle.std.specs.Prelude.{refl}
 use Rattle.std.proofs.Common.{ap, arith, eqb-true}
-use Rattle.std.proofs.lemmas.Bool.{false≢true, not-false}
+use Rattle.std.proofs.lemmas.Bool.{not-false}
 use Rattle.lines.specs.BelowLaws.{table_at}
 use Rattle.lines.specs.BoolLaws.{and_left}
 use Rattle.lines.specs.Class.{all_of}
@@ -10,7 +10,8 @@ use Rattle.lines.specs.FirstOf.{Row, ◌⇒◌, first_of}
 use Rattle.lines.specs.Rows.{line_place, most_lines}
 use Rattle.lines.specs.RowsLaws.{line_ends}
 use Rattle.lines.specs.declared.class.Class.TheVariants.{DigitOrCapital}
-use Rattle.moment.specs.Moment.{is_moment, check_moment, is_real, moment_rows, time_fault}
+use Rattle.moment.specs.Moment.{is_moment}
+use Rattle.moment.specs.MomentLaws.{moment_shows}
 use Rattle.passage.specs.Passage.{line_width}
 use Rattle.tif.specs.Columns.{tif_layout}
 use Rattle.tif.specs.Judged.{JudgedFile}
@@ -18,7 +19,6 @@ use Rattle.tif.specs.JudgedLaws.{judged_shows}
 use Rattle.tif.specs.Name.{is_name}
 use Rattle.tif.specs.NameLaws.{name_shows}
 use Rattle.tif.specs.Received.{names_whole}
-use Rattle.tif.specs.declared.acceptance.Acceptance.{Acceptance}
 use Rattle.tif.specs.declared.acceptance.Whole.{Whole}
 use Rattle.tst.specs.Form.{is_lent, table_sound}
 use Rattle.book.specs.Form.{book_sound}
@@ -53,12 +53,7 @@ last_row other e = e
 
 -- a real moment has fourteen bytes
 moment_long : (s : List ℕ) → is_moment s ≡ true → length s ≡ 14
-unfolding is_moment check_moment first_of
-moment_long s e = go (length s == 14) refl e
-  where
-    go : (b : Bool) → (length s == 14) ≡ b → is_real (cond (not b) Rattle.moment.specs.declared.Moment.Moment.OtherLength (first_of (drop 1 (moment_rows s)) (time_fault s))) ≡ true → length s ≡ 14
-    go true f r = eqb-true (length s) 14 f
-    go false f r = absurd (false≢true r)
+moment_long s e = (moment_shows s e).0
 
 card_long : (lent : Bool) (card : List ℕ) → is_card lent card ≡ true → length card ≡ verdicts_in_use lent * 2
 unfolding is_card
@@ -129,7 +124,7 @@ unfolding words_of word_at
 words_known j marks n k h = rw (table_at (word_at j marks) n k 0 h) (verdict_known j marks k)
 
 -- a file that is judged line by line
-module _ (c : Call) (s : CallSound c) (w : Whole) (file : file_of c ≡ Acceptance.Judged w) where
+module _ (c : Call) (s : CallSound c) (w : Whole) (file : file_of c ≡ Ok w) where
   pub judged : JudgedFile c.name c.names c.tif w
   judged = judged_shows c.name c.names c.tif w file
 

@@ -1,13 +1,17 @@
 -- Moments YYYYMMDDhhmmss and dates YYYYMMDD: whether they are real, and the first part that is wrong. Assumes nothing.
-use Rattle.std.specs.Prelude.{◌≡◌, Bool, true, false, not, List, [], ◌∷◌, ℕ, ◌+◌, ◌≤◌, length, eqb, ltb}
+use Rattle.std.specs.Prelude.{◌≡◌, Bool, true, not, List, [], ◌∷◌, ℕ, ◌+◌, ◌≤◌, length, eqb, ltb, Result, Ok, Err, is_ok}
 use Rattle.lines.specs.Columns.{cols, Inside}
 use Rattle.lines.specs.FirstOf.{Row, ◌⇒◌, first_of}
 use Rattle.lines.specs.Number.{all_digits, number_of}
 use Rattle.lines.specs.declared.columns.Columns.{Columns}
 use Rattle.moment.specs.Calendar.{days_in}
-use Rattle.moment.specs.declared.Moment.{Moment}
-use Rattle.moment.specs.declared.Moment.TheVariants.{Real, Wrong, OtherLength}
+use Rattle.moment.specs.declared.MomentFault.{MomentFault}
+use Rattle.moment.specs.declared.MomentFault.TheVariants.{Wrong, OtherLength}
 use Rattle.moment.specs.declared.MomentPart.TheVariants.{Character, Year, Month, Day, Hour, Minute, Second}
+
+-- real, or why not
+abbrev pub Checked : Type 0
+Checked = Result (Unit {0}) MomentFault
 
 abbrev pub year_of : List ℕ → ℕ
 year_of s = number_of (cols 1 4 s)
@@ -28,53 +32,51 @@ abbrev pub second_of : List ℕ → ℕ
 second_of s = number_of (cols 13 14 s)
 
 -- year 0001 to 9999, a month 01 to 12, a day that the month has; of digits, of which the first eight are the date
-abbrev pub date_faults : List ℕ → List (Row Moment)
+abbrev pub date_faults : List ℕ → List (Row Checked)
 date_faults s =
-    (eqb (year_of s) 0 ⇒ Wrong Year)
-    ∷ (eqb (month_of s) 0 ⇒ Wrong Month)
-    ∷ (ltb 12 (month_of s) ⇒ Wrong Month)
-    ∷ (eqb (day_of s) 0 ⇒ Wrong Day)
-    ∷ (ltb (days_in (year_of s) (month_of s)) (day_of s) ⇒ Wrong Day)
+    (eqb (year_of s) 0 ⇒ Err (Wrong Year))
+    ∷ (eqb (month_of s) 0 ⇒ Err (Wrong Month))
+    ∷ (ltb 12 (month_of s) ⇒ Err (Wrong Month))
+    ∷ (eqb (day_of s) 0 ⇒ Err (Wrong Day))
+    ∷ (ltb (days_in (year_of s) (month_of s)) (day_of s) ⇒ Err (Wrong Day))
     ∷ []
 
-unfoldable pub date_fault : List ℕ → Moment
-date_fault s = first_of (date_faults s) Real
+unfoldable pub date_fault : List ℕ → Checked
+date_fault s = first_of (date_faults s) (Ok tt)
 
 -- hour 00 to 23, minute and second 00 to 59; of digits
-abbrev pub time_faults : List ℕ → List (Row Moment)
+abbrev pub time_faults : List ℕ → List (Row Checked)
 time_faults s =
-    (ltb 23 (hour_of s) ⇒ Wrong Hour)
-    ∷ (ltb 59 (minute_of s) ⇒ Wrong Minute)
-    ∷ (ltb 59 (second_of s) ⇒ Wrong Second)
+    (ltb 23 (hour_of s) ⇒ Err (Wrong Hour))
+    ∷ (ltb 59 (minute_of s) ⇒ Err (Wrong Minute))
+    ∷ (ltb 59 (second_of s) ⇒ Err (Wrong Second))
     ∷ []
 
-unfoldable pub time_fault : List ℕ → Moment
-time_fault s = first_of (time_faults s) Real
+unfoldable pub time_fault : List ℕ → Checked
+time_fault s = first_of (time_faults s) (Ok tt)
 
-abbrev pub is_real : Moment → Bool
-is_real Real = true
-is_real (Wrong part) = false
-is_real OtherLength = false
+abbrev pub is_real : Checked → Bool
+is_real checked = is_ok checked
 
 -- a date of eight bytes
-abbrev pub date_rows : List ℕ → List (Row Moment)
+abbrev pub date_rows : List ℕ → List (Row Checked)
 date_rows s =
-    (not (eqb (length s) 8) ⇒ OtherLength)
-    ∷ (not (all_digits s) ⇒ Wrong Character)
+    (not (eqb (length s) 8) ⇒ Err OtherLength)
+    ∷ (not (all_digits s) ⇒ Err (Wrong Character))
     ∷ []
 
-unfoldable pub check_date : List ℕ → Moment
+unfoldable pub check_date : List ℕ → Checked
 check_date s = first_of (date_rows s) (date_fault s)
 
 -- a moment of fourteen bytes: a character that is no digit goes before every part, and the date before the time
-abbrev pub moment_rows : List ℕ → List (Row Moment)
+abbrev pub moment_rows : List ℕ → List (Row Checked)
 moment_rows s =
-    (not (eqb (length s) 14) ⇒ OtherLength)
-    ∷ (not (all_digits s) ⇒ Wrong Character)
+    (not (eqb (length s) 14) ⇒ Err OtherLength)
+    ∷ (not (all_digits s) ⇒ Err (Wrong Character))
     ∷ (not (is_real (date_fault s)) ⇒ date_fault s)
     ∷ []
 
-unfoldable pub check_moment : List ℕ → Moment
+unfoldable pub check_moment : List ℕ → Checked
 check_moment s = first_of (moment_rows s) (time_fault s)
 
 unfoldable pub is_date : List ℕ → Bool

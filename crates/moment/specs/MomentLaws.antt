@@ -1,13 +1,12 @@
 -- What is known of leap years, and that real dates and moments are digits. Assumes nothing.
-use Rattle.std.specs.Prelude.{◌≡◌, refl, Bool, true, false, not, cond, List, ℕ, ◌%◌, ◌≤◌, length, eqb}
+use Rattle.std.specs.Prelude.{◌≡◌, refl, Bool, true, false, not, cond, List, ℕ, ◌%◌, ◌≤◌, length, eqb, Err}
 use Rattle.std.proofs.lemmas.Bool.{false≢true}
 use Rattle.std.proofs.Common.{arith, eqb-true}
 use Rattle.lines.specs.FirstOf.{first_of}
 use Rattle.lines.specs.Number.{all_digits}
 use Rattle.moment.specs.Calendar.{is_leap}
-use Rattle.moment.specs.Moment.{is_real, date_fault, time_fault, check_date, check_moment, is_date, is_moment}
-use Rattle.moment.specs.declared.Moment.{Moment}
-use Rattle.moment.specs.declared.Moment.TheVariants.{Wrong, OtherLength}
+use Rattle.moment.specs.Moment.{Checked, is_real, date_fault, time_fault, check_date, check_moment, is_date, is_moment}
+use Rattle.moment.specs.declared.MomentFault.TheVariants.{Wrong, OtherLength}
 use Rattle.moment.specs.declared.MomentPart.TheVariants.{Character}
 
 pub leap_small : (year : ℕ) → is_leap year ≤ 1
@@ -21,10 +20,10 @@ leap_small year = go (not (eqb (year % 4) 0)) (not (eqb (year % 100) 0)) (not (e
     go false false false = omega arith
 
 -- a text that passes a length and then digits
-passes : (s : List ℕ) (w : ℕ) (rest : Moment) → is_real (cond (not (eqb (length s) w)) OtherLength (cond (not (all_digits s)) (Wrong Character) rest)) ≡ true → (length s ≡ w) × (all_digits s ≡ true)
+passes : (s : List ℕ) (w : ℕ) (rest : Checked) → is_real (cond (not (eqb (length s) w)) (Err OtherLength) (cond (not (all_digits s)) (Err (Wrong Character)) rest)) ≡ true → (length s ≡ w) × (all_digits s ≡ true)
 passes s w rest e = go (eqb (length s) w) refl (all_digits s) refl e
   where
-    go : (a : Bool) → eqb (length s) w ≡ a → (b : Bool) → all_digits s ≡ b → is_real (cond (not a) OtherLength (cond (not b) (Wrong Character) rest)) ≡ true → (length s ≡ w) × (all_digits s ≡ true)
+    go : (a : Bool) → eqb (length s) w ≡ a → (b : Bool) → all_digits s ≡ b → is_real (cond (not a) (Err OtherLength) (cond (not b) (Err (Wrong Character)) rest)) ≡ true → (length s ≡ w) × (all_digits s ≡ true)
     go true f true g p = (eqb-true (length s) w f, g)
     go true f false g p = absurd (false≢true p)
     go false f b g p = absurd (false≢true p)

@@ -6,12 +6,12 @@ ghost use Rattle.lines.specs.Columns.{field_of};
 ghost use Rattle.lines.specs.Number.{all_digits, number_of};
 ghost use Rattle.lines.specs.Same.{before};
 ghost use Rattle.moment.specs.Calendar.{is_leap, days_in};
-ghost use Rattle.moment.specs.Moment.{Numbered, date_fault, time_fault, check_date, check_moment, is_real, is_date, is_moment};
+ghost use Rattle.moment.specs.Moment.{Numbered, date_fault, time_fault, check_date, check_moment, is_date, is_moment};
 
 use lines::{Class, Columns, all_of, field, number_of, word_at};
 
 // A part of a moment, or a character that is no digit.
-#[derive(Clone, Copy)]
+#[derive(Clone, Copy, PartialEq, Eq)]
 pub enum MomentPart {
     Character,
     Year,
@@ -22,10 +22,9 @@ pub enum MomentPart {
     Second,
 }
 
-// Whether a moment or a date is real, and the first part that is wrong.
-#[derive(Clone, Copy)]
-pub enum Moment {
-    Real,
+// Why a moment or a date is not real: the first part that is wrong, or another number of bytes.
+#[derive(Clone, Copy, PartialEq, Eq)]
+pub enum MomentFault {
     Wrong(MomentPart),
     OtherLength,
 }
@@ -49,6 +48,7 @@ const MONTH_LENGTHS: [[u8; 12]; 2] = [
 ];
 
 // 1 in a leap year, 0 in an ordinary one.
+#[tactic(auto, using(lines::specs::Tests::tests), unfolding(crate::specs::Calendar::is_leap, lines::specs::FirstOf::first_of))]
 fn leap(year: u64) -> usize
     ensures { result ≡ is_leap year }
 {
@@ -87,98 +87,91 @@ fn number_in(s: &[u8], c: Columns) -> u64
 }
 
 // The first part of the date that is wrong, in digits of which the first eight are the date.
-fn date_fault(s: &[u8]) -> Moment
+#[tactic(auto, using(lines::specs::Tests::tests), unfolding(crate::specs::Moment::date_fault, lines::specs::FirstOf::first_of))]
+fn date_fault(s: &[u8]) -> Result<(), MomentFault>
     requires { (all_digits s.now ≡ true) × (8 ≤ length s.now) }
     ensures { result ≡ date_fault s.now }
 {
     let year = number_in(s, YEAR);
     if year == 0 {
-        return Moment::Wrong(MomentPart::Year);
+        return Err(MomentFault::Wrong(MomentPart::Year));
     }
     let month = number_in(s, MONTH);
     if month == 0 {
-        return Moment::Wrong(MomentPart::Month);
+        return Err(MomentFault::Wrong(MomentPart::Month));
     }
     if 12 < month {
-        return Moment::Wrong(MomentPart::Month);
+        return Err(MomentFault::Wrong(MomentPart::Month));
     }
     let day = number_in(s, DAY);
     if day == 0 {
-        return Moment::Wrong(MomentPart::Day);
+        return Err(MomentFault::Wrong(MomentPart::Day));
     }
     if days_in(year, month as usize) < day {
-        return Moment::Wrong(MomentPart::Day);
+        return Err(MomentFault::Wrong(MomentPart::Day));
     }
-    Moment::Real
+    Ok(())
 }
 
 // The first part of the time that is wrong, in fourteen digits.
-fn time_fault(s: &[u8]) -> Moment
+#[tactic(auto, using(lines::specs::Tests::tests), unfolding(crate::specs::Moment::time_fault, lines::specs::FirstOf::first_of))]
+fn time_fault(s: &[u8]) -> Result<(), MomentFault>
     requires { (all_digits s.now ≡ true) × (14 ≤ length s.now) }
     ensures { result ≡ time_fault s.now }
 {
     if 23 < number_in(s, HOUR) {
-        return Moment::Wrong(MomentPart::Hour);
+        return Err(MomentFault::Wrong(MomentPart::Hour));
     }
     if 59 < number_in(s, MINUTE) {
-        return Moment::Wrong(MomentPart::Minute);
+        return Err(MomentFault::Wrong(MomentPart::Minute));
     }
     if 59 < number_in(s, SECOND) {
-        return Moment::Wrong(MomentPart::Second);
+        return Err(MomentFault::Wrong(MomentPart::Second));
     }
-    Moment::Real
+    Ok(())
 }
 
 // Whether the bytes are a real date of eight, and what is wrong first.
-pub fn check_date(s: &[u8]) -> Moment
+#[tactic(auto, using(lines::specs::Tests::tests), unfolding(crate::specs::Moment::check_date, lines::specs::FirstOf::first_of, lines::specs::Number::all_digits))]
+pub fn check_date(s: &[u8]) -> Result<(), MomentFault>
     ensures { result ≡ check_date s.now }
 {
     if s.len() != 8 {
-        return Moment::OtherLength;
+        return Err(MomentFault::OtherLength);
     }
     if !all_of(Class::Digit, s) {
-        return Moment::Wrong(MomentPart::Character);
+        return Err(MomentFault::Wrong(MomentPart::Character));
     }
     date_fault(s)
 }
 
 // Whether the bytes are a real moment of fourteen, and what is wrong first.
-pub fn check_moment(s: &[u8]) -> Moment
+#[tactic(auto, using(lines::specs::Tests::tests), unfolding(crate::specs::Moment::check_moment, lines::specs::FirstOf::first_of, lines::specs::Number::all_digits))]
+pub fn check_moment(s: &[u8]) -> Result<(), MomentFault>
     ensures { result ≡ check_moment s.now }
 {
     if s.len() != 14 {
-        return Moment::OtherLength;
+        return Err(MomentFault::OtherLength);
     }
     if !all_of(Class::Digit, s) {
-        return Moment::Wrong(MomentPart::Character);
+        return Err(MomentFault::Wrong(MomentPart::Character));
     }
-    match date_fault(s) {
-        Moment::Real => time_fault(s),
-        Moment::Wrong(part) => Moment::Wrong(part),
-        Moment::OtherLength => Moment::OtherLength,
-    }
+    date_fault(s)?;
+    time_fault(s)
 }
 
-pub fn is_real(m: Moment) -> bool
-    ensures { result ≡ is_real m }
-{
-    match m {
-        Moment::Real => true,
-        Moment::Wrong(_) => false,
-        Moment::OtherLength => false,
-    }
-}
-
+#[tactic(auto, unfolding(crate::specs::Moment::is_date))]
 pub fn is_date(s: &[u8]) -> bool
     ensures { result ≡ is_date s.now }
 {
-    is_real(check_date(s))
+    check_date(s).is_ok()
 }
 
+#[tactic(auto, unfolding(crate::specs::Moment::is_moment))]
 pub fn is_moment(s: &[u8]) -> bool
     ensures { result ≡ is_moment s.now }
 {
-    is_real(check_moment(s))
+    check_moment(s).is_ok()
 }
 
 // Whether a moment, as written, stands before another. Fourteen bytes are two words that share two bytes.

@@ -3,7 +3,7 @@
 use Rattle.std.specs.Prelude.{◌≡◌, refl, Bool, true, false, List, ℕ, ◌+◌, ◌*◌, ◌≤◌, ◌<◌, length, ltb, Err, Ok}
 use Rattle.std.proofs.Common.{◌∙◌, arith, le-ltb}
 use Rattle.lines.specs.BoolLaws.{or_false}
-use Rattle.tif.specs.declared.acceptance.Acceptance.{Acceptance}
+use Rattle.tif.specs.Acceptance.{Acceptance}
 use Rattle.verdicts.specs.declared.record.Record.{Record}
 use Rattle.judging.specs.Sums.{count_of}
 use Rattle.judging.specs.SumsLaws.{count_within}
@@ -49,11 +49,8 @@ lines_at_most : (c : Call) → check_of c ≡ Ok tt → lines_of c ≤ 9999
 lines_at_most c sound = go (file_of c) refl
   where
     go : (a : Acceptance) → file_of c ≡ a → lines_to_judge (file_of c) ≤ 9999
-    go (Acceptance.Judged w) e = rw e (lines_few c (check_shows c sound) w e)
-    go Acceptance.AlreadyReceived e = rw e (omega arith)
-    go Acceptance.OutOfForm e = rw e (omega arith)
-    go Acceptance.CountsDiffer e = rw e (omega arith)
-    go Acceptance.TotalDiffers e = rw e (omega arith)
+    go (Ok w) e = rw e (lines_few c (check_shows c sound) w e)
+    go (Err f) e = rw e (omega arith)
 
 -- an output of 324 + 812 · 9,999 bytes and 9,999 records are enough for every file
 pub always_room : (c : Call) → check_of c ≡ Ok tt → 8119512 ≤ length c.out → 9999 ≤ c.room → answer_of c ≡ Ok (summary_of c)

@@ -1,7 +1,7 @@
 -- Two results that a contract allows are equal: for the same input the same answer, and the same contents afterwards of everything lent for writing.
 -- One theorem for each form of contract; docs/ONE_ANSWER.md names the theorem of each public function. None asks for what a function requires.
 -- What is lent for reading only stays as it is, by its type. Assumes nothing.
-use Rattle.std.specs.Prelude.{◌≡◌, List, ℕ}
+use Rattle.std.specs.Prelude.{◌≡◌, List, ℕ, Result, Option, None}
 use Rattle.std.proofs.Common.{sym, ap, ◌∙◌}
 use Rattle.std.specs.Borrow.{Bor}
 use Rattle.lines.specs.Number.{BigEndian}
@@ -9,13 +9,12 @@ use Rattle.lines.specs.Splice.{Put}
 use Rattle.lines.specs.declared.kinds.Gross.{Gross}
 use Rattle.tif.specs.declared.reader.Reader.{Reader}
 use Rattle.debits.specs.Taking.{Took, marks_then}
-use Rattle.debits.specs.declared.taking.Taken.{Taken}
 use Rattle.verdicts.specs.declared.record.Record.{Record}
 use Rattle.verdicts.specs.declared.verdict.Verdict.{Verdict}
 use Rattle.judging.specs.Judging.{Judging}
 use Rattle.judging.specs.Steps.{Judged as LineJudged, AllJudged}
 use Rattle.tic.specs.Rewriting.{Rewrites}
-use Rattle.tic.specs.declared.rewriting.Rewritten.{Rewritten}
+use Rattle.tic.specs.declared.rewriting.RewriteFault.{RewriteFault}
 use Rattle.judge.specs.Call.{Call, WordsJudged, Judged}
 use Rattle.answers.specs.Answer.{Answer}
 
@@ -49,7 +48,7 @@ pub one_put : {text : List ℕ} {at : ℕ} {out : List ℕ} {r r₂ : ℕ} {out'
 one_put a b = (one_value a.place b.place, one_value a.spliced b.spliced)
 
 -- a debit taken: which one, and every mark
-pub one_taking : {debits marks credit : List ℕ} {r r₂ : Taken} {marks' marks₂' : List ℕ}
+pub one_taking : {debits marks credit : List ℕ} {r r₂ : Option ℕ} {marks' marks₂' : List ℕ}
     → Took debits marks credit r marks' → Took debits marks credit r₂ marks₂' → (r ≡ r₂) × (marks' ≡ marks₂')
 one_taking {marks = marks} a b =
     let same = one_value a.answer b.answer in
@@ -66,7 +65,7 @@ pub one_judging : {j : Judging} {n : ℕ} {marks : List ℕ} {marks' marks₂' w
 one_judging a b = (one_value a.marked b.marked, one_value a.worded b.worded)
 
 -- a TIC written again: T1 to T5, E7 or its length, and the whole output
-pub one_rewriting : {tic out : List ℕ} {r r₂ : Rewritten} {out' out₂' : List ℕ}
+pub one_rewriting : {tic out : List ℕ} {r r₂ : Result ℕ RewriteFault} {out' out₂' : List ℕ}
     → Rewrites tic out r out' → Rewrites tic out r₂ out₂' → (r ≡ r₂) × (out' ≡ out₂')
 one_rewriting a b = (one_value a.answer b.answer, one_value a.output b.output)
 

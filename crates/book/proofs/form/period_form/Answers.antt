@@ -14,7 +14,7 @@ use Rattle.book.specs.Layout.{plate_part, nation_part, start_part, end_part}
 use Rattle.book.specs.LayoutLaws.{cols_length}
 use Rattle.book.specs.Form.{end_form, period_faults, period_form}
 use Rattle.book.proofs.form.period_form.Goals as goal
-use Rattle.book.proofs.form.period_form.Goals.{After-is_before, After-is_real, After-is_real-2, After-plate_in_book}
+use Rattle.book.proofs.form.period_form.Goals.{After-is_before, After-is_ok, After-is_ok-2, After-plate_in_book}
 
 -- ---- what each test says of the period
 lawful : (c : After-plate_in_book) → c.plate_in_book.result ≡ plate_in_book (plate_part c.args.period.now) (nation_part c.args.period.now)
@@ -23,17 +23,17 @@ lawful c =
     ∙ ap (λ (t : List ℕ). plate_in_book t c.field-2.result.now) c.field.ensures
     ∙ ap (plate_in_book _) c.field-2.ensures
 
-started : (c : After-is_real) → c.check_moment-start.result ≡ check_moment (start_part c.args.period.now)
+started : (c : After-is_ok) → c.check_moment-start.result ≡ check_moment (start_part c.args.period.now)
 started c = c.check_moment-start.ensures ∙ ap check_moment c.field-3.ensures
 
-real_start : (c : After-is_real) → c.is_real.result ≡ is_real (check_moment (start_part c.args.period.now))
-real_start c = c.is_real.ensures ∙ ap is_real (started c)
+real_start : (c : After-is_ok) → c.is_ok.result ≡ is_real (check_moment (start_part c.args.period.now))
+real_start c = c.is_ok.ensures.value ∙ ap is_real (started c)
 
-ended : (c : After-is_real-2) → c.end_form-end.result ≡ end_form c.args.last (end_part c.args.period.now)
+ended : (c : After-is_ok-2) → c.end_form-end.result ≡ end_form c.args.last (end_part c.args.period.now)
 ended c = c.end_form-end.ensures ∙ ap (end_form _) c.field-4.ensures
 
-real_end : (c : After-is_real-2) → c.is_real-2.result ≡ is_real (end_form c.args.last (end_part c.args.period.now))
-real_end c = c.is_real-2.ensures ∙ ap is_real (ended c)
+real_end : (c : After-is_ok-2) → c.is_ok-2.result ≡ is_real (end_form c.args.last (end_part c.args.period.now))
+real_end c = c.is_ok-2.ensures.value ∙ ap is_real (ended c)
 
 ordered : (c : After-is_before) → c.is_before.result ≡ before (start_part c.args.period.now) (end_part c.args.period.now)
 ordered c =
@@ -58,21 +58,21 @@ pub returns-then-not-plate_in_book : goal.returns-then-not-plate_in_book
 unfolding period_form
 returns-then-not-plate_in_book c = picked (here (ap not (sym (lawful (goal.at.returns-then-not-plate_in_book c).After-plate_in_book) ∙ c.if-not-plate_in_book.true)))
 
-pub returns-then-not-is_real : goal.returns-then-not-is_real
+pub returns-then-not-is_ok : goal.returns-then-not-is_ok
 unfolding period_form
-returns-then-not-is_real c =
-    let s = goal.at.returns-then-not-is_real c in
-    ap WrongMoment (started s.After-is_real)
+returns-then-not-is_ok c =
+    let s = goal.at.returns-then-not-is_ok c in
+    ap WrongMoment (started s.After-is_ok)
     ∙ picked (after1 _ _ (sym (lawful s.After-plate_in_book) ∙ c.if-not-plate_in_book.false)
-    (here (ap not (sym (real_start s.After-is_real) ∙ c.if-not-is_real.true))))
+    (here (ap not (sym (real_start s.After-is_ok) ∙ c.if-not-is_ok.true))))
 
-pub returns-then-not-is_real-2 : goal.returns-then-not-is_real-2
+pub returns-then-not-is_ok-2 : goal.returns-then-not-is_ok-2
 unfolding period_form
-returns-then-not-is_real-2 c =
-    let s = goal.at.returns-then-not-is_real-2 c in
-    ap WrongMoment (ended s.After-is_real-2)
-    ∙ picked (after2 _ _ (sym (lawful s.After-plate_in_book) ∙ c.if-not-plate_in_book.false) (sym (real_start s.After-is_real) ∙ c.if-not-is_real.false)
-    (here (ap not (sym (real_end s.After-is_real-2) ∙ c.if-not-is_real-2.true))))
+returns-then-not-is_ok-2 c =
+    let s = goal.at.returns-then-not-is_ok-2 c in
+    ap WrongMoment (ended s.After-is_ok-2)
+    ∙ picked (after2 _ _ (sym (lawful s.After-plate_in_book) ∙ c.if-not-plate_in_book.false) (sym (real_start s.After-is_ok) ∙ c.if-not-is_ok.false)
+    (here (ap not (sym (real_end s.After-is_ok-2) ∙ c.if-not-is_ok-2.true))))
 
 pub is_before-requires : goal.is_before-requires
 is_before-requires c =
@@ -84,14 +84,14 @@ pub returns-then-not-is_before : goal.returns-then-not-is_before
 unfolding period_form
 returns-then-not-is_before c =
     let s = goal.at.returns-then-not-is_before c in
-    picked (after3 _ _ (sym (lawful s.After-plate_in_book) ∙ c.if-not-plate_in_book.false) (sym (real_start s.After-is_real) ∙ c.if-not-is_real.false)
-    (sym (real_end s.After-is_real-2) ∙ c.if-not-is_real-2.false)
+    picked (after3 _ _ (sym (lawful s.After-plate_in_book) ∙ c.if-not-plate_in_book.false) (sym (real_start s.After-is_ok) ∙ c.if-not-is_ok.false)
+    (sym (real_end s.After-is_ok-2) ∙ c.if-not-is_ok-2.false)
     (here (ap not (sym (ordered s.After-is_before) ∙ c.if-not-is_before.true))))
 
 pub returns : goal.returns
 unfolding period_form
 returns c =
     let s = goal.at.returns c in
-    picked (after3 _ _ (sym (lawful s.After-plate_in_book) ∙ c.if-not-plate_in_book.false) (sym (real_start s.After-is_real) ∙ c.if-not-is_real.false)
-    (sym (real_end s.After-is_real-2) ∙ c.if-not-is_real-2.false)
+    picked (after3 _ _ (sym (lawful s.After-plate_in_book) ∙ c.if-not-plate_in_book.false) (sym (real_start s.After-is_ok) ∙ c.if-not-is_ok.false)
+    (sym (real_end s.After-is_ok-2) ∙ c.if-not-is_ok-2.false)
     (past (ap not (sym (ordered s.After-is_before) ∙ c.if-not-is_before.false)) none))
