@@ -20,3 +20,4 @@ pub mod Splice
 pub mod SpliceLaws
 pub mod Rows
 pub mod RowsLaws
+pub mod OverRange
