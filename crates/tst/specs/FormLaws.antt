@@ -33,9 +33,6 @@ module _ (tst : List ℕ) (m : ℕ) (c : Counted tst_layout (length tst) m) wher
   pub foot_length : length (footer_of tst_layout tst m) ≡ footer_width
   foot_length = footer_length tst_layout tst m counted_long
 
-  pub all_ruled : Ruled tst_layout tst station_spans m
-  all_ruled = counted_ruled tst m m c (omega arith)
-
   module _ (k : ℕ) (h : k < m) where
     pub row_ends : line_place tst_layout k + row_width ≤ length tst
     row_ends = omega (arith, c.long, line_ends tst_layout m k h)
