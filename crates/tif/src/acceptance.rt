@@ -32,9 +32,7 @@ pub fn acceptance_of(name: &[u8], names: &[u8], tif: &[u8]) -> Result<Whole, Fil
     if is_received(names, name) {
         return Err(FileFault::AlreadyReceived);
     }
-    let Some(n) = framed_lines(TIF, tif) else {
-        return Err(FileFault::OutOfForm);
-    };
+    let n = framed_lines(TIF, tif).ok_or(FileFault::OutOfForm)?;
     let counts = read_header(name, header_of(TIF, tif)).ok_or(FileFault::OutOfForm)?;
     let sum = body_amount(tif, n).ok_or(FileFault::OutOfForm)?;
     let total = footer_amount(footer_of(TIF, tif, n)).ok_or(FileFault::OutOfForm)?;

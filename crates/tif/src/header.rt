@@ -25,24 +25,16 @@ const RECEIVER_END: usize = 28;
 pub const NOK: [u8; 3] = *b"NOK";
 
 // Whether the header begins as one, and has sender, receiver and sequence as the file's name has them.
-#[tactic(auto, unfolding(crate::specs::Header::names_file, crate::specs::Every::every))]
+#[tactic(auto, using(crate::specs::HeaderLaws::short_name), unfolding(crate::specs::Header::names_file, crate::specs::Every::every))]
 fn names_file(name: &[u8], header: &[u8]) -> bool
     requires { length header.now ≡ header_width }
     ensures { result ≡ names_file name.now header.now }
 {
-    if header[0] != b'0' {
-        return false;
-    }
-    if name.len() < RECEIVER_END {
-        return false;
-    }
-    if !is_same(field(header, SENDER), field(name, NAME_SENDER)) {
-        return false;
-    }
-    if !is_same(field(header, RECEIVER), field(name, NAME_RECEIVER)) {
-        return false;
-    }
-    is_same(field(header, SEQUENCE), field(name, NAME_IDENTITY))
+    header[0] == b'0'
+        && name.len() >= RECEIVER_END
+        && is_same(field(header, SENDER), field(name, NAME_SENDER))
+        && is_same(field(header, RECEIVER), field(name, NAME_RECEIVER))
+        && is_same(field(header, SEQUENCE), field(name, NAME_IDENTITY))
 }
 
 // Whether the columns of the header that name no file and no count are of the right form.
@@ -51,19 +43,11 @@ fn header_formed(header: &[u8]) -> bool
     requires { length header.now ≡ header_width }
     ensures { result ≡ header_formed header.now }
 {
-    if !is_same(field(header, CURRENCY), &NOK) {
-        return false;
-    }
-    if !is_sided(side_of(header)) {
-        return false;
-    }
-    if !is_same(field(header, HEADER_VERSION), &VERSION) {
-        return false;
-    }
-    if !is_moment(field(header, CREATION_MOMENT)) {
-        return false;
-    }
-    all_of(Class::Only(48), field(header, HEADER_FILLER))
+    is_same(field(header, CURRENCY), &NOK)
+        && is_sided(side_of(header))
+        && is_same(field(header, HEADER_VERSION), &VERSION)
+        && is_moment(field(header, CREATION_MOMENT))
+        && all_of(Class::Only(b'0'), field(header, HEADER_FILLER))
 }
 
 // The counts that a header states which is of the right form and is that of the named file.
@@ -72,21 +56,12 @@ pub fn read_header(name: &[u8], header: &[u8]) -> Option<Counts>
     requires { length header.now ≡ header_width }
     ensures { result ≡ header_of_file name.now header.now }
 {
-    if !names_file(name, header) {
+    if !names_file(name, header) || !header_formed(header) {
         return None;
     }
-    if !header_formed(header) {
-        return None;
-    }
-    let Some(records) = read_digits(field(header, RECORDS)) else {
-        return None;
-    };
-    let Some(transactions) = read_digits(field(header, TRANSACTIONS)) else {
-        return None;
-    };
     Some(Counts {
-        records: Count(records),
-        transactions: Count(transactions),
+        records: Count(read_digits(field(header, RECORDS))?),
+        transactions: Count(read_digits(field(header, TRANSACTIONS))?),
     })
 }
 
@@ -95,13 +70,5 @@ pub fn read_header(name: &[u8], header: &[u8]) -> Option<Counts>
 pub fn counts_agree(counts: Counts, lines: Count) -> bool
     ensures { result ≡ counts_agree counts.records.0 counts.transactions.0 lines.0 }
 {
-    let records = counts.records;
-    let transactions = counts.transactions;
-    if records != lines {
-        return false;
-    }
-    if transactions == Count(0) {
-        return true;
-    }
-    transactions == lines
+    counts.records == lines && (counts.transactions == Count(0) || counts.transactions == lines)
 }
