@@ -11,8 +11,8 @@ framed c = framed_is _ _ _ (sym c.framed_lines.ensures ∙ c.in_ok-n.ensures.ok_
 pub header_of-requires : goal.header_of-requires
 header_of-requires c = omega (arith, (framed (goal.at.header_of-requires c).In_ok-n).counted.long)
 
-pub read_header-requires : goal.read_header-requires
-read_header-requires c = ap length c.header_of.ensures ∙ header_length _ _ (omega (arith, (framed (goal.at.read_header-requires c).In_ok-n).counted.long))
+pub invariant_of-header : goal.invariant_of-header
+invariant_of-header c = record { long = ap length c.header_of.ensures ∙ header_length _ _ (omega (arith, (framed (goal.at.invariant_of-header c).In_ok-n).counted.long)) }
 
 pub body_amount-requires : goal.body_amount-requires
 body_amount-requires c = (omega (arith, (framed (goal.at.body_amount-requires c).In_ok-n).counted.long), (framed (goal.at.body_amount-requires c).In_ok-n).counted.few)

@@ -1,5 +1,5 @@
 use Rattle.std.proofs.Common.{arith, ap, length, length-take}
-use Rattle.tif.proofs.header.read_header.Goals as goal
+use Rattle.tif.proofs.header.Header.read.Goals as goal
 
 pub read_digits-requires : goal.read_digits-requires
 read_digits-requires c = omega (arith, simp length-take at (ap length c.field.ensures))
