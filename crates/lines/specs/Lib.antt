@@ -19,4 +19,5 @@ pub mod Splice
 pub mod SpliceLaws
 pub mod Rows
 pub mod RowsLaws
+pub mod Found
 pub mod OverRange
