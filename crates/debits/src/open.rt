@@ -8,7 +8,7 @@ ghost use Rattle.debits.specs.Open.{debit_hash, OpenFrom, Opened, Listed, LeadsT
 
 use crate::form::DEBITS;
 use crate::taking::free_for;
-use chains::{HASHES, clear_ahead, enter_ahead, hash_line};
+use chains::{HASHES, clear_ahead, enter_ahead, hash_line, next_ahead};
 use lines::line_of;
 use passage::CREDIT_SPANS;
 
@@ -26,10 +26,9 @@ fn enter_open(debits: &[u8], marks: &[u8], k: usize, links: &mut [u16])
     requires open_from { OpenFrom debits.now marks.now (k + 1) links.old }
     ensures { OpenFrom debits.now marks.now k links.new }
 {
-    if marks[k] != 0 {
-        return;
+    if marks[k] == 0 {
+        enter_ahead(links, debit_hash(debits, k), k, k);
     }
-    enter_ahead(links, debit_hash(debits, k), k, k);
 }
 
 // Chains the open debits by the hash of what a credit must share with them; what the slice held before does not matter.
@@ -39,9 +38,7 @@ pub fn index_open(debits: &[u8], marks: &[u8], links: &mut [u16])
     ensures { Opened debits.now marks.now links.new }
 {
     clear_ahead(links, marks.len());
-    let mut k = marks.len();
-    while k > 0 {
-        k -= 1;
+    for k in (0..marks.len()).rev() {
         enter_open(debits, marks, k, links);
     }
 }
@@ -52,13 +49,11 @@ fn link_to(debits: &[u8], marks: &[u8], credit: &[u8], links: &[u16]) -> usize
     ensures { LeadsTo debits.now marks.now credit.now links.now result }
 {
     let mut at = hash_line(credit, &CREDIT_SPANS);
-    let mut j = usize::from(links[at]);
-    while j < marks.len() {
+    while let Some(j) = next_ahead(links, at, marks.len()) {
         if free_for(debits, marks, credit, j) {
             return at;
         }
         at = HASHES + j;
-        j = usize::from(links[at]);
     }
     at
 }
@@ -69,13 +64,8 @@ pub fn take_open(debits: &[u8], marks: &mut [u8], credit: &[u8], links: &mut [u1
     ensures { Took debits.now marks.old credit.now result marks.new × Opened debits.now marks.new links.new }
 {
     let at = link_to(debits, marks, credit, links);
-    let j = usize::from(links[at]);
-    if j >= marks.len() {
-        return None;
-    }
-    let after = links[HASHES + j];
-    links[at] = after;
+    let j = next_ahead(links, at, marks.len())?;
+    links[at] = links[HASHES + j];
     marks[j] = 1;
-    let number = j + 1;
-    Some(number)
+    Some(j + 1)
 }

@@ -9,6 +9,7 @@ pub mod Class
 pub mod ClassLaws
 pub mod Ranges
 pub mod Number
+pub mod ListLaws
 pub mod NumberLaws
 pub mod Same
 pub mod SameLaws
