@@ -47,7 +47,10 @@ fn period_in_time(book: &[u8], at: usize, moment: &[u8]) -> Option<usize>
     requires { Body width book.now at × (length moment.now ≡ 14) }
     ensures { (plate nation : List ℕ) → result ≡ found_below (periods_at book.now at) (covers_at width book.now at (asked true moment.now plate nation)) }
 {
-    let started = first_true(periods_at(book, at), move |j| starts_after(book, at, j, moment));
+    let started = first_true(
+        periods_at(book, at),
+        move |j| starts_after(book, at, j, moment),
+    );
     let last = started.checked_sub(1)?;
     if in_time(period_of(book, at, last), moment) {
         return Some(last);

@@ -1,6 +1,6 @@
 -- What `all`, `any` and `find` over the numbers 0 to n - 1 answer, where the closure computes a test. Assumes nothing.
-use Rattle.std.specs.Prelude.{◌≡◌, refl, Bool, true, false, cond, ℕ, ◌≤◌, ◌<◌, List, length, get_or, Option, Some, None, MatchOption}
-use Rattle.std.proofs.Common.{sym, ap, subst, arith}
+use Rattle.std.specs.Prelude.{◌≡◌, refl, Bool, true, false, ℕ, ◌≤◌, ◌<◌, List, length, get_or, Option, Some, None, MatchOption}
+use Rattle.std.proofs.Common.{sym, subst, arith}
 use Rattle.std.proofs.iter.Yields.{nat_range_steps}
 use Rattle.std.proofs.lemmas.Iterator.{YieldsList-from_range, cases_from_all, cases_from_any, first_from_Range}
 use Rattle.std.proofs.lemmas.List.FromFn.{length-range_with_len, get_or-range_with_len}

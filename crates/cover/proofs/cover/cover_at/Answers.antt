@@ -1,6 +1,5 @@
-use Rattle.std.proofs.Common.{sym, ap, ◌∙◌}
+use Rattle.std.proofs.Common.{sym, ◌∙◌}
 use Rattle.lines.specs.Found.{found_is}
-use Rattle.book.specs.Layout.{width}
 use Rattle.cover.proofs.PlateCoverLaws.{named_some, named_none, blank_first}
 use Rattle.cover.proofs.cover.cover_at.Goals as goal
 

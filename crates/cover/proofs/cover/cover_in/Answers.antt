@@ -1,4 +1,4 @@
-use Rattle.std.proofs.Common.{ap, ◌∙◌, arith}
+use Rattle.std.proofs.Common.{◌∙◌, arith}
 use Rattle.lines.specs.Found.{found_is}
 use Rattle.book.specs.Layout.{width}
 use Rattle.book.specs.FormLaws.{whole_is}

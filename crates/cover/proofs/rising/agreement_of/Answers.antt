@@ -1,4 +1,4 @@
-use Rattle.std.proofs.Common.{rules, sym, ap, ◌∙◌, ◌≡◌, true, false, arith, List, ℕ, ◌≤◌, ◌<◌, not, ◌⊎◌}
+use Rattle.std.proofs.Common.{rules, sym, ap, ◌∙◌, arith, List, ℕ}
 use Rattle.lines.specs.Same.{same}
 use Rattle.lines.specs.Found.{found_first, found_past}
 use Rattle.book.specs.Layout.{width, agreements}
@@ -31,7 +31,7 @@ returns c =
     let n = c.agreements_of-n.ensures in
     found_past (agreements a.book.now) (pan_is a.book.now a.pan.now)
     (elim c.else-i-n.branch [
-      else-i-n-via-then-i-n+else-is_same w ↦
+      | else-i-n-via-then-i-n+else-is_same w ↦
           found_other width _ _ c.requires c.first_true-i.result (rw n at c.first_true-i.ensures) (omega arith) (ap (λ (t : List ℕ). same t a.pan.now) (sym w.pan_of.ensures) ∙ sym w.is_same.ensures ∙ w.if-is_same.false)
       | else-i-n-via-else-i-n w ↦ found_nowhere width _ _ c.requires c.first_true-i.result (rw n at c.first_true-i.ensures) (omega arith)
     ])

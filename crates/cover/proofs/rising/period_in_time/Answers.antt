@@ -1,9 +1,9 @@
-use Rattle.std.proofs.Common.{rules, sym, ap, ◌∙◌, ◌≡◌, true, false, arith, List, [], ℕ, ◌≤◌, ◌<◌, ◌-◌, length}
+use Rattle.std.proofs.Common.{rules, sym, ap, ◌∙◌, ◌≡◌, true, arith, List, [], ℕ, ◌≤◌, ◌-◌, length}
 use Rattle.lines.specs.Found.{found_first, found_past}
 use Rattle.book.specs.Layout.{width, periods_at, period_of, period_end}
 use Rattle.book.specs.LayoutLaws.{period_length}
 use Rattle.cover.specs.Cover.{asked, in_time, period_covers, covers_at}
-use Rattle.cover.specs.Rising.{start_of, after, OnlyBefore}
+use Rattle.cover.specs.Rising.{OnlyBefore}
 use Rattle.cover.specs.RisingLaws.{period_inside, stays_after, only_none, only_one}
 use Rattle.cover.proofs.PeriodLaws.{starts_sought, covers_only}
 use Rattle.cover.proofs.rising.period_in_time.Goals as goal
