@@ -1,8 +1,7 @@
 -- The credits of one file in file order: what each takes, and the marks after each. `credits k` is line k, counted from 0, and `reaches k` says
 -- that it passes every test before L8. Assumes nothing.
-use Rattle.std.specs.Prelude.{Bool, not, ◌&&◌, cond, List, ℕ, zero, suc}
+use Rattle.std.specs.Prelude.{Bool, not, ◌&&◌, cond, List, ℕ, zero, suc, Option}
 use Rattle.debits.specs.Taking.{place_taken, taken, took_debit, marks_then}
-use Rattle.debits.specs.declared.taking.Taken.{Taken}
 
 module _ (debits : List ℕ) (credits : ℕ → List ℕ) (reaches : ℕ → Bool) (marks : List ℕ) where
   -- the marks after k lines: a line that reaches the test takes the debit that it finds, any other line takes none
@@ -11,7 +10,7 @@ module _ (debits : List ℕ) (credits : ℕ → List ℕ) (reaches : ℕ → Boo
   marks_after (suc k) = cond (reaches k) (marks_then (marks_after k) (taken debits (marks_after k) (credits k))) (marks_after k)
 
   -- what line k takes where it reaches the test
-  unfoldable pub taken_at : ℕ → Taken
+  unfoldable pub taken_at : ℕ → Option ℕ
   taken_at k = taken debits (marks_after k) (credits k)
 
   -- the place, counted from 0, of the debit that line k takes

@@ -1,5 +1,5 @@
 -- What is known of the debit that a credit takes. Assumes nothing.
-use Rattle.std.specs.Prelude.{◌≡◌, Bool, cond, List, ℕ, suc, ◌+◌, ◌≤◌, ◌<◌}
+use Rattle.std.specs.Prelude.{◌≡◌, Bool, cond, List, ℕ, suc, ◌+◌, ◌≤◌, ◌<◌, Option, Some, None}
 use Rattle.std.proofs.Math.Path.{refl, sym}
 use Rattle.std.proofs.Common.{ap, ◌∙◌, true≢false, arith}
 use Rattle.std.proofs.Math.Bool.{true, false}
@@ -12,8 +12,6 @@ use borrow.Author.Tests.{lt-ltb, le-ltb, ltb-true, ltb-false}
 use Rattle.lines.specs.BelowLaws.{first_found, first_is, some_none}
 use Rattle.lines.specs.Below.{some_below}
 use Rattle.debits.specs.Taking.{free_for, place_taken, taken, took_debit, marks_then, Took}
-use Rattle.debits.specs.declared.taking.Taken.{Taken}
-use Rattle.debits.specs.declared.taking.Taken.TheVariants.{Debit, NoDebit}
 
 module _ (debits marks credit : List ℕ) where
   abbrev free : ℕ → Bool
@@ -22,15 +20,15 @@ module _ (debits marks credit : List ℕ) where
   abbrev place : ℕ
   place = place_taken debits marks credit
 
-  abbrev answer : Taken
+  abbrev answer : Option ℕ
   answer = taken debits marks credit
 
   -- a place below the number of marks is a debit taken, and its number is one more
-  pub taken_some : place < length marks → answer ≡ Debit (place + 1)
+  pub taken_some : place < length marks → answer ≡ Some (place + 1)
   unfolding taken
   taken_some h = rw (lt-ltb place (length marks) h, add-one place)
 
-  pub taken_none : length marks ≤ place → answer ≡ NoDebit
+  pub taken_none : length marks ≤ place → answer ≡ None
   unfolding taken
   taken_none h = rw (le-ltb place (length marks) h)
 
@@ -40,7 +38,7 @@ module _ (debits marks credit : List ℕ) where
   marks_then_lem = go (ltb place (length marks)) refl
     where
       go : (b : Bool) → ltb place (length marks) ≡ b
-          → marks_then marks (cond b (Debit (suc place)) NoDebit) ≡ set marks place 1
+          → marks_then marks (cond b (Some (suc place)) None) ≡ set marks place 1
       go true e = rw sub-one
       go false e = sym (set_out marks place 1 (ltb-false place (length marks) e))
 
@@ -50,7 +48,7 @@ module _ (debits marks credit : List ℕ) where
   took_some = go (ltb place (length marks)) refl
     where
       go : (b : Bool) → ltb place (length marks) ≡ b
-          → took_debit (cond b (Debit (suc place)) NoDebit) ≡ true
+          → took_debit (cond b (Some (suc place)) None) ≡ true
           → (place < length marks) × (free place ≡ true)
       go true e t = let h = ltb-true place (length marks) e in (h, first_found free (length marks) h)
       go false e t = absurd (false≢true t)
@@ -63,21 +61,21 @@ module _ (debits marks credit : List ℕ) where
     where
       go : (b : Bool) → ltb place (length marks) ≡ b
           → (s : Bool) → some_below (length marks) free ≡ s
-          → took_debit (cond b (Debit (suc place)) NoDebit) ≡ false
-          → (marks_then marks (cond b (Debit (suc place)) NoDebit) ≡ marks) × ((j : ℕ) → j < length marks → free j ≡ false)
+          → took_debit (cond b (Some (suc place)) None) ≡ false
+          → (marks_then marks (cond b (Some (suc place)) None) ≡ marks) × ((j : ℕ) → j < length marks → free j ≡ false)
       go true e s f t = absurd (true≢false t)
       go false e true f t = absurd (omega (arith, ltb-false place (length marks) e, (first_is free (length marks) f).0))
       go false e false f t = (refl, some_none free (length marks) f)
 
   -- an answer with a number: it is one more than the place, and not above the number of marks
-  pub taken_number : (m : ℕ) → answer ≡ Debit m → (m ≡ place + 1) × (m ≤ length marks)
+  pub taken_number : (m : ℕ) → answer ≡ Some m → (m ≡ place + 1) × (m ≤ length marks)
   taken_number m e =
       let h = (took_some (ap took_debit e)).0 in
       let s : m ≡ place + 1 = cc (taken_some h) in
       (s, omega arith)
 
 -- the contract allows one answer and one list of marks
-pub took_one : (debits marks credit : List ℕ) (r s : Taken) (after other : List ℕ) → Took debits marks credit r after → Took debits marks credit s other → (r ≡ s) × (after ≡ other)
+pub took_one : (debits marks credit : List ℕ) (r s : Option ℕ) (after other : List ℕ) → Took debits marks credit r after → Took debits marks credit s other → (r ≡ s) × (after ≡ other)
 took_one debits marks credit r s after other t u =
     let e : r ≡ s = t.answer ∙ sym u.answer in
     (e, t.marked ∙ ap (marks_then marks) e ∙ sym u.marked)

@@ -7,4 +7,4 @@ mod taking;
 
 pub use form::{DEBITS, debits_sound};
 pub use open::{index_open, take_open};
-pub use taking::{Taken, take_debit};
+pub use taking::take_debit;

@@ -7,7 +7,7 @@ ghost use Rattle.debits.specs.Taking.{Lent, Took};
 ghost use Rattle.debits.specs.Open.{debit_hash, OpenFrom, Opened, Listed, LeadsTo};
 
 use crate::form::DEBITS;
-use crate::taking::{Taken, free_for};
+use crate::taking::free_for;
 use chains::{HASHES, clear_ahead, enter_ahead, hash_line, link_of};
 use lines::line_of;
 use passage::CREDIT_SPANS;
@@ -63,19 +63,19 @@ fn link_to(debits: &[u8], marks: &[u8], credit: &[u8], links: &[u16]) -> usize
     at
 }
 
-// The credit takes the first unmarked debit that agrees with it: that debit's mark becomes 1, and it goes out of the index.
-pub fn take_open(debits: &[u8], marks: &mut [u8], credit: &[u8], links: &mut [u16]) -> Taken
+// The credit takes the first unmarked debit that agrees with it: that debit's mark becomes 1, and it goes out of the index. The answer is its number, counted from 1.
+pub fn take_open(debits: &[u8], marks: &mut [u8], credit: &[u8], links: &mut [u16]) -> Option<usize>
     requires { Lent debits.now marks.old credit.now × Opened debits.now marks.old links.old }
     ensures { Took debits.now marks.old credit.now result marks.new × Opened debits.now marks.new links.new }
 {
     let at = link_to(debits, marks, credit, links);
     let j = link_of(links[at]);
     if j >= marks.len() {
-        return Taken::NoDebit;
+        return None;
     }
     let after = links[HASHES + j];
     links[at] = after;
     marks[j] = 1;
     let number = j + 1;
-    Taken::Debit(number)
+    Some(number)
 }

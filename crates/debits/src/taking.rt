@@ -5,13 +5,6 @@ use crate::form::DEBITS;
 use lines::{agree_on, line_of};
 use passage::CREDIT_SPANS;
 
-// What a credit took: a debit, by its number counted from 1, or none.
-#[derive(Clone, Copy)]
-pub enum Taken {
-    Debit(usize),
-    NoDebit,
-}
-
 // Whether debit j is unmarked and agrees with the credit. The mark comes first: it is one byte, the columns are seventy.
 #[tactic(auto, unfolding(crate::specs::Taking::free_for, crate::specs::Taking::unmarked, crate::specs::Taking::agrees))]
 pub fn free_for(debits: &[u8], marks: &[u8], credit: &[u8], j: usize) -> bool
@@ -40,16 +33,16 @@ fn first_free(debits: &[u8], marks: &[u8], credit: &[u8]) -> usize
     j
 }
 
-// The credit takes the first unmarked debit that agrees with it, and that debit's mark becomes 1.
+// The credit takes the first unmarked debit that agrees with it, and that debit's mark becomes 1. The answer is that debit's number, counted from 1.
 #[tactic(auto, using(crate::specs::TakingLaws::taken_some, crate::specs::TakingLaws::taken_none))]
-pub fn take_debit(debits: &[u8], marks: &mut [u8], credit: &[u8]) -> Taken
+pub fn take_debit(debits: &[u8], marks: &mut [u8], credit: &[u8]) -> Option<usize>
     requires { Lent debits.now marks.old credit.now }
     ensures { Took debits.now marks.old credit.now result marks.new }
 {
     let j = first_free(debits, marks, credit);
     if j >= marks.len() {
-        return Taken::NoDebit;
+        return None;
     }
     marks[j] = 1;
-    Taken::Debit(j + 1)
+    Some(j + 1)
 }

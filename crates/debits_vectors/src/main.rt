@@ -4,7 +4,7 @@
 ghost use Rattle.std.specs.Prelude.{◌*◌, ◌≤◌, length, IfOk};
 ghost use Rattle.debits_vectors.specs.Held.{Fits};
 
-use debits::{Taken, debits_sound, take_debit};
+use debits::{debits_sound, take_debit};
 use frames::{Kind, print_line_feed, print_marks, print_number, read_kind, read_part};
 use passage::WIDTH;
 use std::io;
@@ -57,10 +57,10 @@ fn run_form(
     Ok(Held { going: true, count })
 }
 
-fn print_taken(to: &mut impl Write, answer: Taken) -> io::Result<()> {
+fn print_taken(to: &mut impl Write, answer: Option<usize>) -> io::Result<()> {
     match answer {
-        Taken::Debit(number) => print_number(to, number as u64),
-        Taken::NoDebit => print_number(to, 0),
+        Some(number) => print_number(to, number as u64),
+        None => print_number(to, 0),
     }
 }
 

@@ -1,6 +1,6 @@
 -- The marks follow the verdicts: a line that credits a debit marks that one, and every other line, a credit refused before L8 among them, marks none. Assumes nothing.
 -- These laws stand here and not in specs/, since they rest on `fails_verdict` and `passes_verdict`, which wrong tests of a line make false: a must-fail edit counts only where nothing in specs/ rests on what it makes false.
-use Rattle.std.specs.Prelude.{◌≡◌, refl, Bool, true, false, List, ℕ, suc}
+use Rattle.std.specs.Prelude.{◌≡◌, refl, Bool, true, false, List, ℕ, suc, Option, Some, None}
 use Rattle.std.proofs.Common.{sym, ap, ◌∙◌}
 use Rattle.tif.specs.Body.{line_at}
 use Rattle.tif.specs.declared.side.Side.{Side}
@@ -9,7 +9,6 @@ use Rattle.cover.specs.declared.cover.Cover.{Cover}
 use Rattle.cover.specs.declared.cover.Cover.TheVariants.{At, Nothing}
 use Rattle.debits.specs.Credits.{marks_after}
 use Rattle.debits.specs.Taking.{marks_then}
-use Rattle.debits.specs.declared.taking.Taken.{Taken}
 use Rattle.verdicts.specs.LineTestsLaws.{line_refuses}
 use Rattle.verdicts.specs.declared.line_tests.LineTest.{LineTest}
 use Rattle.verdicts.specs.declared.line_tests.LineTest.TheVariants.{Fails, Passes}
@@ -18,11 +17,11 @@ use Rattle.judging.specs.Judging.{Judging, is_credit_file, repeated_at, cover_on
 use Rattle.judging.specs.StepLaws.{passed_credit, passed_debit, passed_neither, fails_reaches, passes_reaches, next_by, fails_verdict, passes_verdict}
 use Rattle.judging.specs.Marks.{debit_of, refusal_none}
 
-credit_debit : (took : Taken) → debit_of (credit_of took) ≡ took
-credit_debit (Taken.Debit debit) = refl
-credit_debit Taken.NoDebit = refl
+credit_debit : (took : Option ℕ) → debit_of (credit_of took) ≡ took
+credit_debit (Some debit) = refl
+credit_debit None = refl
 
-debit_none : (repeated : Bool) (cover : Cover) → debit_of (debit_verdict repeated cover) ≡ Taken.NoDebit
+debit_none : (repeated : Bool) (cover : Cover) → debit_of (debit_verdict repeated cover) ≡ None
 debit_none true cover = refl
 debit_none false (At place) = refl
 debit_none false Nothing = refl
@@ -33,7 +32,7 @@ module _ (j : Judging) (marks : List ℕ) (k : ℕ) where
   marks_follow = go (test_on j k) refl
     where
       -- a line that takes no debit, and does not reach L8
-      none : reaches_at j k ≡ false → debit_of (verdict_on j marks k) ≡ Taken.NoDebit → marks_next j marks k ≡ marks_then marks (debit_of (verdict_on j marks k))
+      none : reaches_at j k ≡ false → debit_of (verdict_on j marks k) ≡ None → marks_next j marks k ≡ marks_then marks (debit_of (verdict_on j marks k))
       none e f = next_by j marks k false e ∙ sym (ap (marks_then marks) f)
 
       by_side : test_on j k ≡ Passes → {side : Side} → j.side ≡ side

@@ -1,6 +1,6 @@
 -- What each verdict carries fits its word, so that the word gives the verdict back; and L9 is in use only where a station table is lent. Assumes nothing.
 -- These laws stand here and not in specs/, since they rest on `fails_verdict` and `passes_verdict`, which wrong tests of a line make false: a must-fail edit counts only where nothing in specs/ rests on what it makes false.
-use Rattle.std.specs.Prelude.{◌≡◌, refl, Bool, true, false, ◌&&◌, cond, List, ℕ, ◌+◌, ◌≤◌, ◌<◌, length, ltb}
+use Rattle.std.specs.Prelude.{◌≡◌, refl, Bool, true, false, ◌&&◌, cond, List, ℕ, ◌+◌, ◌≤◌, ◌<◌, length, ltb, Option, Some, None}
 use Rattle.std.proofs.Common.{sym, ap, ◌∙◌, arith, ltb-true}
 use Rattle.lines.specs.Rows.{most_lines}
 use Rattle.tif.specs.Body.{line_at}
@@ -18,7 +18,6 @@ use Rattle.cover.specs.declared.cover.Place.{Place}
 use Rattle.debits.specs.CreditsLaws.{after_length}
 use Rattle.debits.specs.TakingLaws.{taken_number}
 use Rattle.debits.specs.Taking.{taken}
-use Rattle.debits.specs.declared.taking.Taken.{Taken}
 use Rattle.verdicts.specs.LineTests.{test_line}
 use Rattle.verdicts.specs.LineTestsLaws.{line_refuses, known_number}
 use Rattle.verdicts.specs.Verdict.{verdict_number, verdict_of, Placed, InWord}
@@ -68,9 +67,9 @@ covered_fits : (book line : List ℕ) → book_sound width book ≡ true → (co
 covered_fits book line s (At place) e = place_fits book line place s e
 covered_fits book line s Nothing e = refusal_fits NotCovered (omega arith)
 
-credit_fits : (debits marks credit : List ℕ) → length marks ≤ most_lines → (took : Taken) → taken debits marks credit ≡ took → InWord (credit_of took)
-credit_fits debits marks credit few (Taken.Debit debit) e = debit_fits debit (omega (arith, (taken_number debits marks credit debit e).1))
-credit_fits debits marks credit few Taken.NoDebit e = refusal_fits NoDebit (omega arith)
+credit_fits : (debits marks credit : List ℕ) → length marks ≤ most_lines → (took : Option ℕ) → taken debits marks credit ≡ took → InWord (credit_of took)
+credit_fits debits marks credit few (Some debit) e = debit_fits debit (omega (arith, (taken_number debits marks credit debit e).1))
+credit_fits debits marks credit few None e = refusal_fits NoDebit (omega arith)
 
 -- with a sound book and no more marks than there may be debits
 module _ (j : Judging) (marks : List ℕ) (k : ℕ) (s : book_sound width j.book ≡ true) (few : length marks ≤ most_lines) where
@@ -101,12 +100,12 @@ word_verdict j marks k s few =
 
 -- ---- the numbers in use
 -- past L1 to L5 and L9 a verdict is one of L6 to L8 or an acceptance
-passed_number : (side : Side) (repeated : Bool) (cover : Cover) (took : Taken) → verdict_number (passed_verdict side repeated cover took) < 9
+passed_number : (side : Side) (repeated : Bool) (cover : Cover) (took : Option ℕ) → verdict_number (passed_verdict side repeated cover took) < 9
 passed_number Credit repeated cover took = rw (passed_credit repeated cover took) (go took)
   where
-    go : (t : Taken) → verdict_number (credit_of t) < 9
-    go (Taken.Debit debit) = omega arith
-    go Taken.NoDebit = omega arith
+    go : (t : Option ℕ) → verdict_number (credit_of t) < 9
+    go (Some debit) = omega arith
+    go None = omega arith
 passed_number Debit true cover took = rw (passed_debit true cover took) (omega arith)
 passed_number Debit false cover took = rw (passed_debit false cover took) (go cover)
   where

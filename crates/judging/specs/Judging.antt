@@ -1,5 +1,5 @@
 -- The verdict on each line of a file, L1 to L9, and the marks after each. Lines are counted from 0 here. Assumes nothing.
-use Rattle.std.specs.Prelude.{Bool, true, false, not, ◌&&◌, cond, List, [], ◌∷◌, ◌++◌, ℕ}
+use Rattle.std.specs.Prelude.{Bool, true, false, not, ◌&&◌, cond, List, [], ◌∷◌, ◌++◌, ℕ, Option, Some, None}
 use Rattle.lines.specs.Below.{some_below, table_below}
 use Rattle.lines.specs.FirstOf.{Row, ◌⇒◌, first_of}
 use Rattle.lines.specs.Spans.{agree_on}
@@ -14,7 +14,6 @@ use Rattle.cover.specs.declared.cover.Cover.{Cover}
 use Rattle.cover.specs.declared.cover.Cover.TheVariants.{At, Nothing}
 use Rattle.debits.specs.Credits.{marks_after}
 use Rattle.debits.specs.Taking.{taken, took_debit, marks_then}
-use Rattle.debits.specs.declared.taking.Taken.{Taken}
 use Rattle.verdicts.specs.LineTests.{line_rows, test_line, passes}
 use Rattle.verdicts.specs.declared.line_tests.LineTest.{LineTest}
 use Rattle.verdicts.specs.Verdict.{word_of}
@@ -65,16 +64,16 @@ covered_by (At place) = Covered place
 covered_by Nothing = NotCovered
 
 -- or the debit that it took
-abbrev pub credit_of : Taken → Verdict
-credit_of (Taken.Debit debit) = Credits debit
-credit_of Taken.NoDebit = NoDebit
+abbrev pub credit_of : Option ℕ → Verdict
+credit_of (Some debit) = Credits debit
+credit_of None = NoDebit
 
 -- a debit that passed L1 to L5 and L9: L6, L7, or covered
 abbrev pub debit_verdict : Bool → Cover → Verdict
 debit_verdict repeated cover = cond repeated RepeatedLine (covered_by cover)
 
 -- L6 and L7 are for a DEB file, L8 is for a CRE file
-abbrev pub file_rows : Side → Bool → Cover → Taken → List (Row Verdict)
+abbrev pub file_rows : Side → Bool → Cover → Option ℕ → List (Row Verdict)
 file_rows side repeated cover took =
     ((is_debit_file side && repeated) ⇒ RepeatedLine)
     ∷ ((is_debit_file side && not (is_covered cover)) ⇒ NotCovered)
@@ -82,17 +81,17 @@ file_rows side repeated cover took =
     ∷ []
 
 -- a file of neither side has no line that passes L1
-abbrev pub accepted_by : Side → Cover → Taken → Verdict
+abbrev pub accepted_by : Side → Cover → Option ℕ → Verdict
 accepted_by Credit cover took = credit_of took
 accepted_by Debit cover took = covered_by cover
 accepted_by Neither cover took = WrongType
 
 -- the verdict on a line that has passed L1 to L5 and L9
-unfoldable pub passed_verdict : Side → Bool → Cover → Taken → Verdict
+unfoldable pub passed_verdict : Side → Bool → Cover → Option ℕ → Verdict
 passed_verdict side repeated cover took = first_of (file_rows side repeated cover took) (accepted_by side cover took)
 
 -- what line k takes where the marks are these
-abbrev pub taken_on : Judging → List ℕ → ℕ → Taken
+abbrev pub taken_on : Judging → List ℕ → ℕ → Option ℕ
 taken_on j marks k = taken j.debits marks (line_at j.tif k)
 
 -- L9: the station table lent has the station of line k, or none is lent

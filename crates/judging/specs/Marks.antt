@@ -1,11 +1,10 @@
 -- The debit that a verdict credits, and the marks of a DEB file, which stay. That the marks follow the verdicts is shown in proofs/MarksLaws. Assumes nothing.
-use Rattle.std.specs.Prelude.{◌≡◌, refl, false, ◌&&◌, List, ℕ, zero, suc, ◌<◌}
+use Rattle.std.specs.Prelude.{◌≡◌, refl, false, ◌&&◌, List, ℕ, zero, suc, ◌<◌, Option, Some, None}
 use Rattle.std.proofs.Common.{ap, arith}
 use Rattle.tif.specs.Body.{line_at}
 use Rattle.tif.specs.declared.side.Side.{Side}
 use Rattle.tif.specs.declared.side.Side.TheVariants.{Debit}
 use Rattle.debits.specs.Credits.{marks_after}
-use Rattle.debits.specs.declared.taking.Taken.{Taken}
 use Rattle.verdicts.specs.LineTests.{test_line, passes}
 use Rattle.verdicts.specs.Verdict.{verdict_number}
 use Rattle.verdicts.specs.declared.verdict.Verdict.{Verdict}
@@ -13,21 +12,21 @@ use Rattle.verdicts.specs.declared.verdict.Verdict.TheVariants.{Covered, Credits
 use Rattle.judging.specs.Judging.{Judging, is_credit_file, known_on, reaches_at, marks_before}
 
 -- the debit that a verdict credits
-abbrev pub debit_of : Verdict → Taken
-debit_of (Covered place) = Taken.NoDebit
-debit_of (Credits debit) = Taken.Debit debit
-debit_of WrongType = Taken.NoDebit
-debit_of FieldOutOfForm = Taken.NoDebit
-debit_of OtherActor = Taken.NoDebit
-debit_of UnknownVehicle = Taken.NoDebit
-debit_of PlateOutOfForm = Taken.NoDebit
-debit_of RepeatedLine = Taken.NoDebit
-debit_of NotCovered = Taken.NoDebit
-debit_of NoDebit = Taken.NoDebit
-debit_of UnknownStation = Taken.NoDebit
+abbrev pub debit_of : Verdict → Option ℕ
+debit_of (Covered place) = None
+debit_of (Credits debit) = Some debit
+debit_of WrongType = None
+debit_of FieldOutOfForm = None
+debit_of OtherActor = None
+debit_of UnknownVehicle = None
+debit_of PlateOutOfForm = None
+debit_of RepeatedLine = None
+debit_of NotCovered = None
+debit_of NoDebit = None
+debit_of UnknownStation = None
 
 -- a refusal credits none
-pub refusal_none : (v : Verdict) → 0 < verdict_number v → debit_of v ≡ Taken.NoDebit
+pub refusal_none : (v : Verdict) → 0 < verdict_number v → debit_of v ≡ None
 refusal_none (Covered place) h = absurd (omega arith)
 refusal_none (Credits debit) h = absurd (omega arith)
 refusal_none WrongType h = refl

@@ -12,7 +12,7 @@ ghost use Rattle.judging.specs.Steps.{Given, CreditJudged, PassedJudged, Judged}
 
 use chains::{Heads, Links};
 use cover::{Cover, cover_at};
-use debits::{Taken, take_debit};
+use debits::take_debit;
 use lines::{agree_on, field};
 use passage::{DETECTED_NATION, DETECTED_PLATE, EXIT_MOMENT, PAN, REPEAT_SPANS};
 use tif::{Side, tif_line};
@@ -76,8 +76,8 @@ fn judge_credit(debits: &[u8], marks: &mut [u8], line: &[u8]) -> Verdict
     ensures { CreditJudged debits.now marks.old line.now result marks.new }
 {
     match take_debit(debits, marks, line) {
-        Taken::Debit(debit) => Verdict::Credits(debit),
-        Taken::NoDebit => Verdict::NoDebit,
+        Some(debit) => Verdict::Credits(debit),
+        None => Verdict::NoDebit,
     }
 }
 

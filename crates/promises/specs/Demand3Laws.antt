@@ -1,5 +1,5 @@
 -- What demand 3 rests on for a whole file: the verdict on a line says whether it takes a debit, and which; the marks follow. Assumes nothing.
-use Rattle.std.specs.Prelude.{◌≡◌, Bool, ◌&&◌, List, eqb}
+use Rattle.std.specs.Prelude.{◌≡◌, Bool, ◌&&◌, List, eqb, Option, Some, None}
 use Rattle.std.proofs.Math.Path.{refl, sym, ap}
 use Rattle.std.proofs.Common.{◌∙◌, true≢false, arith, get_or-set_same, get_or-set_other}
 use Rattle.std.proofs.Math.Bool.{true, false, not}
@@ -20,7 +20,6 @@ use Rattle.debits.specs.CreditsLaws.{Accepted, skipped_is, after_length}
 use Rattle.debits.proofs.AcceptedLaws.{accepted_is, unmarked_earlier}
 use Rattle.debits.specs.Taking.{unmarked, place_taken, took_debit}
 use Rattle.debits.specs.TakingLaws.{taken_some}
-use Rattle.debits.specs.declared.taking.Taken.{Taken}
 use Rattle.verdicts.specs.LineTests.{test_line, passes}
 use Rattle.verdicts.specs.LineTestsLaws.{fails_each}
 use Rattle.verdicts.specs.Verdict.{verdict_number}
@@ -34,7 +33,7 @@ use Rattle.judging.specs.StepLaws.{passed_credit, passed_debit, passed_neither, 
 
 -- ---- the verdict on a line that does not reach L8: neither a credit nor L8
 record Apart (v : Verdict) : Type 0 where
-  pub none : debit_of v ≡ Taken.NoDebit
+  pub none : debit_of v ≡ None
   pub other : v ≡ NoDebit → ⊥
 
 apart_numbered : (v : Verdict) → 0 < verdict_number v → (verdict_number v ≡ 8 → ⊥) → Apart v
@@ -71,7 +70,7 @@ module _ (j : Judging) (marks : List ℕ) (k : ℕ) where
   abbrev before : List ℕ
   before = marks_before j marks k
 
-  abbrev took : Taken
+  abbrev took : Option ℕ
   took = taken_at j.debits (line_at j.tif) (reaches_at j) marks k
 
   by_side : test ≡ Passes → {side : Side} → j.side ≡ side → verdict_at j marks k ≡ passed_verdict side (repeated_at j.tif k) (cover_on j.book line) (taken_on j before k)
@@ -118,9 +117,9 @@ module _ (j : Judging) (marks : List ℕ) (k : ℕ) where
   abbrev place : ℕ
   place = place_at j.debits (line_at j.tif) (reaches_at j) marks k
 
-  credit_took : (t : Taken) → took_debit (debit_of (credit_of t)) ≡ took_debit t
-  credit_took (Taken.Debit debit) = refl
-  credit_took Taken.NoDebit = refl
+  credit_took : (t : Option ℕ) → took_debit (debit_of (credit_of t)) ≡ took_debit t
+  credit_took (Some debit) = refl
+  credit_took None = refl
 
   pub accepted_reaches : accepted ≡ true → reaches_at j k ≡ true
   unfolding credit_accepted
@@ -138,13 +137,13 @@ module _ (j : Judging) (marks : List ℕ) (k : ℕ) where
       go true e = sym (ap (λ (v : Verdict). took_debit (debit_of v)) (reaching e) ∙ credit_took took)
       go false e = sym (ap took_debit (not_reaching e).none)
 
-  unmatched_only : (t : Taken) → credit_of t ≡ NoDebit → not (took_debit t) ≡ true
-  unmatched_only (Taken.Debit debit) e = let z : ◌≡◌ {A = ℕ} 0 8 = ap verdict_number e in absurd (omega arith)
-  unmatched_only Taken.NoDebit e = refl
+  unmatched_only : (t : Option ℕ) → credit_of t ≡ NoDebit → not (took_debit t) ≡ true
+  unmatched_only (Some debit) e = let z : ◌≡◌ {A = ℕ} 0 8 = ap verdict_number e in absurd (omega arith)
+  unmatched_only None e = refl
 
-  unmatched_then : (t : Taken) → not (took_debit t) ≡ true → credit_of t ≡ NoDebit
-  unmatched_then (Taken.Debit debit) e = absurd (false≢true e)
-  unmatched_then Taken.NoDebit e = refl
+  unmatched_then : (t : Option ℕ) → not (took_debit t) ≡ true → credit_of t ≡ NoDebit
+  unmatched_then (Some debit) e = absurd (false≢true e)
+  unmatched_then None e = refl
 
   pub refused_verdict : Exactly (verdict_at j marks k ≡ NoDebit) (refused ≡ true)
   unfolding credit_refused

@@ -1,7 +1,7 @@
 -- Demand 3, over sequences of calls: files of either side and answers of every kind among them. What each call leaves is whatever the contract of
 -- `judge` allows. Places of debits are counted from 0. The statements come first, each in words and then as a type: 3 is proved by
 -- `none_credited_twice`, 4 by `none_credited_twice_by_events`, 5 by `not_copied`, below them. Assumes nothing.
-use Rattle.std.specs.Prelude.{◌≡◌, Bool, ◌||◌, length, replicate, eqb}
+use Rattle.std.specs.Prelude.{◌≡◌, Bool, ◌||◌, length, replicate, eqb, Option, Some, None}
 use Rattle.std.proofs.Math.Path.{refl, ap}
 use Rattle.std.proofs.Common.{sym, ◌∙◌, true≢false, get_or-set_same, get_or-set_other, eqb-true}
 use Rattle.std.proofs.Math.Bool.{true, false, cond}
@@ -19,7 +19,6 @@ use Rattle.debits.proofs.AcceptedLaws.{accepted_is}
 use Rattle.debits.specs.Sequence.{Open, Step, judged, added, open_after, place_if_taken, places_of, places_taken, NoneTwice}
 use Rattle.debits.proofs.SequenceLaws.{none_taken_twice}
 use Rattle.debits.specs.Taking.{took_debit}
-use Rattle.debits.specs.declared.taking.Taken.{Taken}
 use Rattle.verdicts.specs.declared.record.Record.{Record}
 use Rattle.verdicts.specs.declared.verdict.Verdict.{Verdict}
 use Rattle.verdicts.specs.declared.verdict.Verdict.TheVariants.{Credits}
@@ -34,9 +33,9 @@ use Rattle.promises.specs.Demand3Laws.{accepted_verdict, carried_number}
 -- twice; and the debits marked at the end are those that were credited.
 
 -- the place of the debit that was taken
-abbrev pub place_of_taken : Taken → List ℕ
-place_of_taken (Taken.Debit debit) = (debit - 1) ∷ []
-place_of_taken Taken.NoDebit = []
+abbrev pub place_of_taken : Option ℕ → List ℕ
+place_of_taken (Some debit) = (debit - 1) ∷ []
+place_of_taken None = []
 
 -- the place of the debit that the record of line k carries
 unfoldable pub place_in : List Record → ℕ → List ℕ
@@ -171,9 +170,9 @@ module _ (debits : List ℕ) (credits : ℕ → List ℕ) (reaches : ℕ → Boo
       ∙ ap (λ (b : Bool). cond b 1 (get_or marks p 0)) (sym (among_append p (join_below n taken) (taken n)))
 
 -- what a call credits is what its file takes, line by line
-place_none : (t : Taken) → took_debit t ≡ false → place_of_taken t ≡ []
-place_none (Taken.Debit debit) e = absurd (true≢false e)
-place_none Taken.NoDebit e = refl
+place_none : (t : Option ℕ) → took_debit t ≡ false → place_of_taken t ≡ []
+place_none (Some debit) e = absurd (true≢false e)
+place_none None e = refl
 
 module _ (c : Call) (records : List Record) (r : Answer) (marks' : List ℕ) (records' : List Record) (out' : List ℕ) (left : Judged c records r marks' records' out') where
   abbrev before : Open

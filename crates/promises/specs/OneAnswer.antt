@@ -1,7 +1,7 @@
 -- Two results that a contract allows are equal: for the same input the same answer, and the same contents afterwards of everything lent for writing.
 -- One theorem for each form of contract; docs/ONE_ANSWER.md names the theorem of each public function. None asks for what a function requires.
 -- What is lent for reading only stays as it is, by its type. Assumes nothing.
-use Rattle.std.specs.Prelude.{◌≡◌, List, ℕ}
+use Rattle.std.specs.Prelude.{◌≡◌, List, ℕ, Option, None}
 use Rattle.std.proofs.Common.{sym, ap, ◌∙◌}
 use Rattle.std.specs.Borrow.{Bor}
 use Rattle.lines.specs.Number.{BigEndian}
@@ -9,7 +9,6 @@ use Rattle.lines.specs.Splice.{Put}
 use Rattle.lines.specs.declared.kinds.Gross.{Gross}
 use Rattle.tif.specs.declared.reader.Reader.{Reader}
 use Rattle.debits.specs.Taking.{Took, marks_then}
-use Rattle.debits.specs.declared.taking.Taken.{Taken}
 use Rattle.verdicts.specs.declared.record.Record.{Record}
 use Rattle.verdicts.specs.declared.verdict.Verdict.{Verdict}
 use Rattle.judging.specs.Judging.{Judging}
@@ -49,7 +48,7 @@ pub one_put : {text : List ℕ} {at : ℕ} {out : List ℕ} {r r₂ : ℕ} {out'
 one_put a b = (one_value a.place b.place, one_value a.spliced b.spliced)
 
 -- a debit taken: which one, and every mark
-pub one_taking : {debits marks credit : List ℕ} {r r₂ : Taken} {marks' marks₂' : List ℕ}
+pub one_taking : {debits marks credit : List ℕ} {r r₂ : Option ℕ} {marks' marks₂' : List ℕ}
     → Took debits marks credit r marks' → Took debits marks credit r₂ marks₂' → (r ≡ r₂) × (marks' ≡ marks₂')
 one_taking {marks = marks} a b =
     let same = one_value a.answer b.answer in

@@ -1,3 +1,4 @@
+use Rattle.std.specs.Prelude.{Some}
 use native.Mathlib.Omega.{arith}
 use Prim.Native.Nat.{ℕ, ◌+◌}
 use mathlib.Core.Path.{refl, sym, ap, ◌∙◌}
@@ -6,7 +7,6 @@ use native.Mathlib.Numerals.{add-one, sub-one}
 use Rattle.debits.specs.TakingLaws.{taken_some, taken_none}
 use Rattle.chains.specs.Ahead.{link_at}
 use Rattle.debits.specs.OpenLaws.{opened_cut}
-use Rattle.debits.specs.declared.taking.Taken.{Taken}
 use Rattle.debits.proofs.open.take_open.Goals as goal
 
 pub bounds-links-at : goal.bounds-links-at
@@ -33,7 +33,7 @@ returns c =
     let g = c.link_to-at.ensures in
     let e = c.link_of-j.ensures ∙ g.leads in (
       record {
-        answer = ap (λ (j : ℕ). Taken.Debit (j + 1)) e ∙ sym (taken_some _ _ _ (omega arith));
+        answer = ap (λ (j : ℕ). Some (j + 1)) e ∙ sym (taken_some _ _ _ (omega arith));
         marked = rw (add-one, sub-one);
         within = omega arith;
       },
