@@ -1,5 +1,5 @@
 -- What can be wrong with a call before its file is looked at: E1 to E6 and then E8, in order. Assumes nothing.
-use Rattle.std.specs.Prelude.{Bool, true, false, not, List, [], ◌∷◌, ℕ}
+use Rattle.std.specs.Prelude.{not, List, [], ◌∷◌, ℕ}
 use Rattle.lines.specs.FirstOf.{Row, ◌⇒◌, first_of}
 use Rattle.moment.specs.Moment.{is_moment}
 use Rattle.tif.specs.Name.{is_name}
@@ -8,15 +8,10 @@ use Rattle.tst.specs.Form.{is_lent, table_sound}
 use Rattle.book.specs.Form.{book_sound}
 use Rattle.book.specs.Layout.{width}
 use Rattle.debits.specs.Form.{debits_sound}
-use Rattle.book.specs.declared.form.BookForm.{BookForm}
 use Rattle.answers.specs.Card.{is_card}
 use Rattle.answers.specs.declared.answer.CallCheck.{CallCheck}
 use Rattle.answers.specs.declared.answer.CallCheck.TheVariants.{Faulty, Sound}
 use Rattle.answers.specs.declared.answer.CallFault.TheVariants.{FileName, ReceptionMoment, CodeCard, ReceivedNames, Book, OpenDebits, StationTable}
-
-abbrev pub is_sound : BookForm → Bool
-is_sound BookForm.Sound = true
-is_sound BookForm.OutOfForm = false
 
 -- E5 the book, E6 open debits and marks, E8 the station table
 abbrev pub lent_rows : List ℕ → List ℕ → List ℕ → List ℕ → List (Row CallCheck)

@@ -1,8 +1,9 @@
 -- What is told of a file, and the room that is asked for. Assumes nothing.
-use Rattle.std.specs.Prelude.{Bool, true, false, ◌||◌, cond, List, ℕ, length, eqb, ltb}
+use Rattle.std.specs.Prelude.{Bool, true, false, ◌||◌, cond, List, ℕ, length, eqb, ltb, Ok, Err}
+use Rattle.tif.specs.Acceptance.{Acceptance}
 use Rattle.tif.specs.Body.{gross_of}
 use Rattle.tif.specs.Side.{side_of}
-use Rattle.tif.specs.declared.acceptance.Acceptance.{Acceptance}
+use Rattle.tif.specs.declared.acceptance.FileFault.{FileFault}
 use Rattle.tic.specs.Rewriting.{tic_length}
 use Rattle.tic_text.specs.declared.values.TicHead.{TicHead}
 use Rattle.tic_text.specs.declared.values.TicSums.{TicSums}
@@ -14,22 +15,19 @@ use Rattle.answers.specs.declared.answer.Summary.{Summary}
 
 -- the total that is told: zero with 02 to 05
 abbrev pub total_told : Acceptance → ℕ
-total_told (Acceptance.Judged w) = w.total.0
-total_told Acceptance.AlreadyReceived = 0
-total_told Acceptance.OutOfForm = 0
-total_told Acceptance.CountsDiffer = 0
-total_told Acceptance.TotalDiffers = 0
+total_told (Ok w) = w.total.0
+total_told (Err e) = 0
 
 -- 01 where a line is refused, 00 where none is
 unfoldable pub judged_answer : ℕ → FileAnswer
 judged_answer refused = cond (eqb refused 0) Accepted PartlyAccepted
 
 abbrev pub file_answer : Acceptance → ℕ → FileAnswer
-file_answer (Acceptance.Judged w) refused = judged_answer refused
-file_answer Acceptance.AlreadyReceived refused = AlreadyReceived
-file_answer Acceptance.OutOfForm refused = OutOfForm
-file_answer Acceptance.CountsDiffer refused = CountsDiffer
-file_answer Acceptance.TotalDiffers refused = TotalDiffers
+file_answer (Ok w) refused = judged_answer refused
+file_answer (Err FileFault.AlreadyReceived) refused = AlreadyReceived
+file_answer (Err FileFault.OutOfForm) refused = OutOfForm
+file_answer (Err FileFault.CountsDiffer) refused = CountsDiffer
+file_answer (Err FileFault.TotalDiffers) refused = TotalDiffers
 
 -- what is told of a file with these words
 abbrev pub summary_for : Acceptance → List ℕ → List ℕ → Summary

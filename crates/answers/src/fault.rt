@@ -1,28 +1,20 @@
 ghost use Rattle.std.specs.Prelude.{◌≡◌};
-ghost use Rattle.answers.specs.Fault.{check_call, check_lent, is_sound};
+ghost use Rattle.answers.specs.Fault.{check_call, check_lent};
 
 use crate::answer::{CallCheck, CallFault};
 use crate::card::is_card;
-use book::{BookForm, check_book};
+use book::check_book;
 use debits::debits_sound;
 use moment::is_moment;
 use tif::{is_name, names_whole};
 use tst::{is_lent, table_sound};
 
-fn is_sound(form: BookForm) -> bool
-    ensures { result ≡ is_sound form }
-{
-    match form {
-        BookForm::Sound => true,
-        BookForm::OutOfForm => false,
-    }
-}
-
 // E5, E6 and E8.
+#[tactic(auto, using(lines::specs::Tests::tests), unfolding(crate::specs::Fault::check_lent, lines::specs::FirstOf::first_of))]
 fn check_lent(book: &[u8], debits: &[u8], marks: &[u8], tst: &[u8]) -> CallCheck
     ensures { result ≡ check_lent book.now debits.now marks.now tst.now }
 {
-    if !is_sound(check_book(book)) {
+    if !check_book(book) {
         return CallCheck::Faulty(CallFault::Book);
     }
     if !debits_sound(debits, marks) {

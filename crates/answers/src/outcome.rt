@@ -1,5 +1,4 @@
 ghost use Rattle.std.specs.Prelude.{◌≡◌, ◌≤◌, length, ltb};
-ghost use Rattle.tif.specs.declared.acceptance.Acceptance.TheVariants.{Judged};
 ghost use Rattle.judging.specs.Sums.{Worded};
 ghost use Rattle.answers.specs.Answer.{answer_code};
 ghost use Rattle.answers.specs.Told.{judged_answer, file_answer, refused_file, summary_for, head_of, sums_of, too_small};
@@ -8,7 +7,7 @@ use crate::answer::{FileAnswer, Summary, answer_code};
 use judging::sums_of;
 use lines::{Count, Gross};
 use tic_text::{TicHead, TicSums};
-use tif::{Acceptance, Whole, side_of};
+use tif::{FileFault, Whole, side_of};
 
 // 00 where no line is refused, 01 where one is.
 #[tactic(auto, unfolding(crate::specs::Told::judged_answer))]
@@ -22,23 +21,22 @@ fn judged_answer(refused: usize) -> FileAnswer
 }
 
 // The answer for a file with this acceptance, of which so many lines are refused.
-// `_whole` has a name so that the proof can tell the case; nothing of it is used.
-pub fn file_answer(acceptance: Acceptance, refused: usize) -> FileAnswer
+pub fn file_answer(acceptance: Result<Whole, FileFault>, refused: usize) -> FileAnswer
     ensures { result ≡ file_answer acceptance refused }
 {
     match acceptance {
-        Acceptance::Judged(_whole) => judged_answer(refused),
-        Acceptance::AlreadyReceived => FileAnswer::AlreadyReceived,
-        Acceptance::OutOfForm => FileAnswer::OutOfForm,
-        Acceptance::CountsDiffer => FileAnswer::CountsDiffer,
-        Acceptance::TotalDiffers => FileAnswer::TotalDiffers,
+        Ok(_) => judged_answer(refused),
+        Err(FileFault::AlreadyReceived) => FileAnswer::AlreadyReceived,
+        Err(FileFault::OutOfForm) => FileAnswer::OutOfForm,
+        Err(FileFault::CountsDiffer) => FileAnswer::CountsDiffer,
+        Err(FileFault::TotalDiffers) => FileAnswer::TotalDiffers,
     }
 }
 
 // What is told of a file whose lines have these words.
 pub fn summarize(tif: &[u8], words: &[u64], whole: Whole) -> Summary
     requires { Worded tif.now words.now }
-    ensures { result ≡ summary_for (Judged whole) tif.now words.now }
+    ensures { result ≡ summary_for (Ok whole) tif.now words.now }
 {
     let sums = sums_of(tif, words);
     let accepted = sums.accepted;

@@ -11,8 +11,6 @@ use Rattle.plate.specs.Plate.{plate_in_book}
 use Rattle.book.specs.Layout.{agreements, entry_layout, pan_of, offset_of, periods_at, period_of, body_end, body_place, plate_part, nation_part, start_part, end_part}
 use Rattle.book.specs.declared.form.PeriodForm.{PeriodForm}
 use Rattle.book.specs.declared.form.PeriodForm.TheVariants.{InForm, WrongMoment, OtherFault}
-use Rattle.book.specs.declared.form.BookForm.{BookForm}
-use Rattle.book.specs.declared.form.BookForm.TheVariants.{Sound, OutOfForm}
 
 -- no book has more bytes, no book more agreements, no agreement more periods
 abbrev pub most_bytes : ℕ
@@ -97,9 +95,6 @@ head_sound book =
 
 unfoldable pub book_sound : ℕ → List ℕ → Bool
 book_sound w book = head_sound book && (entries_sound book && bodies_sound w book)
-
-unfoldable pub book_form : ℕ → List ℕ → BookForm
-book_form w book = cond (book_sound w book) Sound OutOfForm
 
 -- what a sound head shows
 pub record Headed (book : List ℕ) : Type 0 where

@@ -1,6 +1,6 @@
 ghost use Rattle.std.specs.Prelude.{◌≡◌, true, ◌+◌, ◌*◌, ◌≤◌, ◌<◌, length};
 ghost use Rattle.book.specs.Layout.{agreements, entry_end, period_end, body_of, width};
-ghost use Rattle.book.specs.Form.{end_form, period_form, in_form, follows_at, period_sound_at, periods_sound, body_sound, rises_at, entry_sound_at, entries_sound, agreement_sound, bodies_sound, head_sound, book_form, Headed};
+ghost use Rattle.book.specs.Form.{end_form, period_form, in_form, follows_at, period_sound_at, periods_sound, body_sound, rises_at, entry_sound_at, entries_sound, agreement_sound, bodies_sound, head_sound, book_sound, Headed};
 
 use crate::layout::{
     END, NATION, PERIOD, PLATE, START, agreements_of, offset_of, pan_of, period_of, periods_at,
@@ -15,13 +15,6 @@ enum PeriodForm {
     InForm,
     WrongMoment(Result<(), MomentFault>),
     OtherFault,
-}
-
-// Whether a book is of the form of the paper (E5).
-#[derive(Clone, Copy)]
-pub enum BookForm {
-    Sound,
-    OutOfForm,
 }
 
 // A book has at most so many bytes, agreements, and periods of one agreement.
@@ -223,17 +216,9 @@ fn head_sound(book: &[u8]) -> bool
 }
 
 // Whether the bytes are a book (E5).
-pub fn check_book(book: &[u8]) -> BookForm
-    ensures { result ≡ book_form width book.now }
+#[tactic(auto, using(crate::specs::FormLaws::head_is), unfolding(crate::specs::Form::book_sound))]
+pub fn check_book(book: &[u8]) -> bool
+    ensures { result ≡ book_sound width book.now }
 {
-    if !head_sound(book) {
-        return BookForm::OutOfForm;
-    }
-    if !entries_sound(book) {
-        return BookForm::OutOfForm;
-    }
-    if !bodies_sound(book) {
-        return BookForm::OutOfForm;
-    }
-    BookForm::Sound
+    head_sound(book) && entries_sound(book) && bodies_sound(book)
 }

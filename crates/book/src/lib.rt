@@ -4,7 +4,7 @@
 mod form;
 mod layout;
 
-pub use form::{BookForm, check_book};
+pub use form::check_book;
 pub use layout::{
     END, NATION, PLATE, START, agreements_of, offset_of, pan_of, period_of, periods_at,
 };

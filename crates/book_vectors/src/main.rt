@@ -5,8 +5,8 @@ ghost use Rattle.std.specs.Prelude.{◌≡◌, true};
 ghost use Rattle.book.specs.Layout.{width};
 ghost use Rattle.book.specs.Form.{book_sound};
 
-use book::{BookForm, check_book};
-use cover::{Cover, cover_at};
+use book::check_book;
+use cover::{Place, cover_at};
 use frames::{Kind, print_bytes, print_line_feed, print_number, read_kind, read_part};
 use std::io;
 use std::io::{Read, Write};
@@ -21,10 +21,10 @@ fn print_place(to: &mut impl Write, agreement: usize, period: usize) -> io::Resu
     print_line_feed(to)
 }
 
-fn print_cover(to: &mut impl Write, cover: Cover) -> io::Result<()> {
+fn print_cover(to: &mut impl Write, cover: Option<Place>) -> io::Result<()> {
     match cover {
-        Cover::At(place) => print_place(to, place.agreement, place.period),
-        Cover::Nothing => print_place(to, 0, 0),
+        Some(place) => print_place(to, place.agreement, place.period),
+        None => print_place(to, 0, 0),
     }
 }
 
@@ -92,18 +92,14 @@ fn run_book(from: &mut impl Read, to: &mut impl Write, book: &mut [u8]) -> io::R
         return Ok(Kind::End);
     }
     let size = part.size;
-    match check_book(&book[0..size]) {
-        BookForm::OutOfForm => {
-            print_number(to, 0)?;
-            print_line_feed(to)?;
-            read_kind(from)
-        }
-        BookForm::Sound => {
-            print_number(to, 1)?;
-            print_line_feed(to)?;
-            run_questions(from, to, &book[0..size])
-        }
+    if !check_book(&book[0..size]) {
+        print_number(to, 0)?;
+        print_line_feed(to)?;
+        return read_kind(from);
     }
+    print_number(to, 1)?;
+    print_line_feed(to)?;
+    run_questions(from, to, &book[0..size])
 }
 
 fn is_book(kind: Kind) -> bool {

@@ -1,5 +1,5 @@
 -- Numbers of periods: the first number that covers is the first place in book order that covers. Assumes nothing.
-use Rattle.std.specs.Prelude.{◌≡◌, Bool, not, List, ℕ, ◌+◌, ◌*◌, ◌/◌, ◌%◌, ◌≤◌, ◌<◌}
+use Rattle.std.specs.Prelude.{◌≡◌, Bool, not, List, ℕ, ◌+◌, ◌*◌, ◌/◌, ◌%◌, ◌≤◌, ◌<◌, Some, None}
 use Rattle.std.proofs.Math.Path.{refl, sym, ap}
 use Rattle.std.proofs.Common.{◌∙◌}
 use Rattle.std.proofs.Math.Bool.{true, false, cond}
@@ -13,10 +13,9 @@ use Rattle.lines.specs.Class.{all_of}
 use Rattle.lines.specs.declared.class.Class.TheVariants.{Only}
 use Rattle.book.specs.Layout.{agreements, periods_at, body_place, width}
 use Rattle.book.specs.Form.{Whole}
-use Rattle.cover.specs.Cover.{Asked, asked, covers_at, covering_period, has_cover, agreement_of, cover_in, cover_of}
+use Rattle.cover.specs.Cover.{Asked, asked, covers_at, covering_period, has_cover, agreement_of, cover_in, cover_of, place_at}
 use Rattle.cover.specs.CoverLaws.{by_pan, by_plate}
 use Rattle.cover.specs.Plates.{numbers_of, body_for, numbered, period_for, covers_number, place_for}
-use Rattle.cover.specs.declared.cover.Cover.TheVariants.{At, Nothing}
 use Rattle.cover.specs.PlatesLaws.{split, numbered_is}
 
 module _ (book : List ℕ) where
@@ -46,7 +45,7 @@ module _ (book : List ℕ) where
       before_x : (y : ℕ) → y < x → wanted y ≡ false
       before_x y h = first_before wanted (numbers_of book) y (omega arith)
 
-      plate_none : numbers_of book ≤ x → cover_in width book q (first_below (agreements book) (has_cover width book q)) ≡ Nothing
+      plate_none : numbers_of book ≤ x → cover_in width book q (first_below (agreements book) (has_cover width book q)) ≡ None
       unfolding cover_in
       plate_none h =
           let n = agreements book in
@@ -79,7 +78,7 @@ module _ (book : List ℕ) where
             (some_each _ (x / 64) (λ i k. none_in i (omega (arith, here.0)) (λ y l. before_x y (omega arith))))
             has_x
 
-        plate_some : cover_in width book q (first_below (agreements book) (has_cover width book q)) ≡ At (record { agreement = x / 64 + 1; period = x % 64 + 1 })
+        plate_some : cover_in width book q (first_below (agreements book) (has_cover width book q)) ≡ Some (place_at (x / 64) (x % 64))
         unfolding cover_in
         plate_some = rw (agreement_x, lt-ltb _ _ here.0, has_x, period_x)
 
@@ -88,7 +87,7 @@ module _ (book : List ℕ) where
     unfolding place_for
     plate_covers x e = go (ltb x (numbers_of book)) refl
       where
-        go : (b : Bool) → ltb x (numbers_of book) ≡ b → cond b (At (record { agreement = x / 64 + 1; period = x % 64 + 1 })) Nothing ≡ cover_in width book q (first_below (agreements book) (has_cover width book q))
+        go : (b : Bool) → ltb x (numbers_of book) ≡ b → cond b (Some (place_at (x / 64) (x % 64))) None ≡ cover_in width book q (first_below (agreements book) (has_cover width book q))
         go true f = sym (plate_some x e (ltb-true x (numbers_of book) f))
         go false f = sym (plate_none x e (ltb-false x (numbers_of book) f))
 

@@ -1,13 +1,12 @@
 -- The period that covers a passage (L7), on any bytes. The width `w` of a period is a parameter. Assumes nothing.
-use Rattle.std.specs.Prelude.{◌≡◌, Bool, true, false, not, ◌&&◌, ◌||◌, cond, List, ℕ, ◌+◌, ◌≤◌, ◌<◌, length, ltb}
+use Rattle.std.specs.Prelude.{◌≡◌, Bool, true, false, not, ◌&&◌, ◌||◌, cond, List, ℕ, ◌+◌, ◌≤◌, ◌<◌, length, ltb, Option, Some, None}
 use Rattle.lines.specs.Below.{some_below, first_below}
 use Rattle.lines.specs.Class.{all_of}
 use Rattle.lines.specs.Same.{same, before}
 use Rattle.lines.specs.declared.class.Class.TheVariants.{Only}
 use Rattle.book.specs.Layout.{agreements, pan_of, periods_at, period_of, body_place, plate_part, nation_part, start_part, end_part}
 use Rattle.book.specs.Form.{book_sound}
-use Rattle.cover.specs.declared.cover.Cover.{Cover}
-use Rattle.cover.specs.declared.cover.Cover.TheVariants.{At, Nothing}
+use Rattle.cover.specs.declared.cover.Place.{Place}
 
 -- what a passage asks of each period: whether a PAN names the agreement, the moment, and the detected plate with its nation
 pub record Asked : Type 0 where
@@ -55,30 +54,34 @@ agreement_of book pan = first_below (agreements book) (pan_is book pan)
 unfoldable pub covering_agreement : ℕ → List ℕ → List ℕ → Asked → ℕ
 covering_agreement w book pan q = cond q.named (agreement_of book pan) (first_below (agreements book) (has_cover w book q))
 
--- the first period of agreement i that covers, both counted from 1
-unfoldable pub cover_in : ℕ → List ℕ → Asked → ℕ → Cover
+-- the place of period j of agreement i, both counted from 1
+abbrev pub place_at : ℕ → ℕ → Place
+place_at i j = record { agreement = i + 1; period = j + 1 }
+
+-- the first period of agreement i that covers
+unfoldable pub cover_in : ℕ → List ℕ → Asked → ℕ → Option Place
 cover_in w book q i =
     cond (ltb i (agreements book) && has_cover w book q i)
-    (At (record { agreement = i + 1; period = covering_period w book (body_place w book i) q + 1 }))
-    Nothing
+    (Some (place_at i (covering_period w book (body_place w book i) q)))
+    None
 
 -- what the passage asks: a PAN that is not all blanks names its agreement
 abbrev pub asking : List ℕ → List ℕ → List ℕ → List ℕ → Asked
 asking pan moment plate nation = asked (not (all_of (Only 32) pan)) moment plate nation
 
 -- what covers a passage: the first in book order, or nothing
-unfoldable pub cover_of : ℕ → List ℕ → List ℕ → List ℕ → List ℕ → List ℕ → Cover
+unfoldable pub cover_of : ℕ → List ℕ → List ℕ → List ℕ → List ℕ → List ℕ → Option Place
 cover_of w book pan moment plate nation =
     cover_in w book (asking pan moment plate nation) (covering_agreement w book pan (asking pan moment plate nation))
 
 -- the numbers of the agreement and of the period that cover, from 1, and 0 where nothing does
-abbrev pub agreement_number : Cover → ℕ
-agreement_number (At place) = place.agreement
-agreement_number Nothing = 0
+abbrev pub agreement_number : Option Place → ℕ
+agreement_number (Some place) = place.agreement
+agreement_number None = 0
 
-abbrev pub period_number : Cover → ℕ
-period_number (At place) = place.period
-period_number Nothing = 0
+abbrev pub period_number : Option Place → ℕ
+period_number (Some place) = place.period
+period_number None = 0
 
 -- PAN i is at or after the PAN that is looked for
 unfoldable pub reached_at : List ℕ → List ℕ → ℕ → Bool

@@ -1,5 +1,5 @@
 -- In a sound book the cover of a passage is the first place in book order that covers it, and is nothing only where no place does. Assumes nothing.
-use Rattle.std.specs.Prelude.{◌≡◌, Bool, not, ◌&&◌, ◌||◌, List, ℕ, ◌+◌, ◌<◌}
+use Rattle.std.specs.Prelude.{◌≡◌, Bool, not, ◌&&◌, ◌||◌, List, ℕ, ◌+◌, ◌<◌, Some, None}
 use Rattle.std.proofs.Math.Path.{refl, ap}
 use Rattle.std.proofs.Common.{sym, ◌∙◌, true≢false, eq-or-lt_of_le}
 use Rattle.std.proofs.Math.Logic.{⊎_elim}
@@ -11,10 +11,9 @@ use Rattle.lines.specs.BelowLaws.{first_before, first_found}
 use Rattle.lines.specs.BoolLaws.{and_left, and_right, and_true}
 use Rattle.book.specs.Layout.{agreements, periods_at, body_place}
 use Rattle.cover.specs.OrderLaws.{either_side}
-use Rattle.cover.specs.Cover.{Asked, asking, covers_at, covering_period, has_cover, pan_is, agreement_of, covering_agreement, cover_in, cover_of, agreement_number, period_number, Named}
+use Rattle.cover.specs.Cover.{Asked, asking, covers_at, covering_period, has_cover, pan_is, agreement_of, covering_agreement, cover_in, cover_of, agreement_number, period_number, Named, place_at}
 use Rattle.cover.specs.CoverLaws.{by_pan, by_plate, pan_once}
 use Rattle.cover.specs.FirstCover.{place_covers, Covers, FirstCover}
-use Rattle.cover.specs.declared.cover.Cover.TheVariants.{At, Nothing}
 
 -- ---- one agreement
 module _ (w : ℕ) (book : List ℕ) (q : Asked) where
@@ -35,13 +34,13 @@ module _ (w : ℕ) (book : List ℕ) (q : Asked) where
       (h, first_found (covers_at w book (body_place w book i) q) (periods_at book (body_place w book i)) h)
 
   -- what an answer says of the agreement that was looked in
-  cover_is : (a i j : ℕ) → cover_in w book q a ≡ At (record { agreement = i + 1; period = j + 1 })
+  cover_is : (a i j : ℕ) → cover_in w book q a ≡ Some (place_at i j)
       → (a ≡ i) × (covering_period w book (body_place w book a) q ≡ j) × (a < agreements book) × (has_cover w book q a ≡ true)
   unfolding cover_in
   cover_is a i j e = go (ltb a (agreements book)) refl (has_cover w book q a) refl e
     where
       go : (s : Bool) → ltb a (agreements book) ≡ s → (t : Bool) → has_cover w book q a ≡ t
-          → cond (s && t) (At (record { agreement = a + 1; period = covering_period w book (body_place w book a) q + 1 })) Nothing ≡ At (record { agreement = i + 1; period = j + 1 })
+          → cond (s && t) (Some (place_at a (covering_period w book (body_place w book a) q))) None ≡ Some (place_at i j)
           → (a ≡ i) × (covering_period w book (body_place w book a) q ≡ j) × (a < agreements book) × (has_cover w book q a ≡ true)
       go true f true g p =
           let x : a + 1 ≡ i + 1 = ap agreement_number p in
@@ -50,13 +49,13 @@ module _ (w : ℕ) (book : List ℕ) (q : Asked) where
       go true f false g p = let x : 0 ≡ i + 1 = ap agreement_number p in absurd (omega arith)
       go false f t g p = let x : 0 ≡ i + 1 = ap agreement_number p in absurd (omega arith)
 
-  cover_not : (a : ℕ) → cover_in w book q a ≡ Nothing → a < agreements book → has_cover w book q a ≡ false
+  cover_not : (a : ℕ) → cover_in w book q a ≡ None → a < agreements book → has_cover w book q a ≡ false
   unfolding cover_in
   cover_not a e h = go (has_cover w book q a) refl
     where
       go : (t : Bool) → has_cover w book q a ≡ t → t ≡ false
       go true f =
-          let z : cover_in w book q a ≡ At (record { agreement = a + 1; period = covering_period w book (body_place w book a) q + 1 }) = rw (lt-ltb a (agreements book) h, f) in
+          let z : cover_in w book q a ≡ Some (place_at a (covering_period w book (body_place w book a) q)) = rw (lt-ltb a (agreements book) h, f) in
           let x : a + 1 ≡ 0 = ap agreement_number (sym z ∙ e) in
           absurd (omega arith)
       go false f = refl
@@ -104,7 +103,7 @@ module _ (w : ℕ) (book pan : List ℕ) (n : Named w book pan) (q : Asked) wher
       go true f = clash (covers_pan i j f v) (pan_once w book pan n a i h v.agreement (looked_pan f (omega (arith, v.agreement))))
       go false f = clash (looked_plate f (omega (arith, v.agreement))) e
 
-  found_is_first : (i j : ℕ) → cover_in w book q (covering_agreement w book pan q) ≡ At (record { agreement = i + 1; period = j + 1 }) → FirstCover w book pan q i j
+  found_is_first : (i j : ℕ) → cover_in w book q (covering_agreement w book pan q) ≡ Some (place_at i j) → FirstCover w book pan q i j
   unfolding place_covers
   found_is_first i j e =
       let a = covering_agreement w book pan q in
@@ -133,7 +132,7 @@ module _ (w : ℕ) (book pan : List ℕ) (n : Named w book pan) (q : Asked) wher
           go true f = has f h
           go false f = refl
 
-  nothing_covers : cover_in w book q (covering_agreement w book pan q) ≡ Nothing → (i j : ℕ) → Covers w book pan q i j → ⊥
+  nothing_covers : cover_in w book q (covering_agreement w book pan q) ≡ None → (i j : ℕ) → Covers w book pan q i j → ⊥
   nothing_covers e i j v =
       let a = covering_agreement w book pan q in
       either_side i a
@@ -147,12 +146,12 @@ module _ (w : ℕ) (book pan : List ℕ) (n : Named w book pan) (q : Asked) wher
 
 -- the place that is answered is the first that covers, in book order
 pub cover_first : (w : ℕ) (book pan moment plate nation : List ℕ) → Named w book pan → (i j : ℕ)
-    → cover_of w book pan moment plate nation ≡ At (record { agreement = i + 1; period = j + 1 }) → FirstCover w book pan (asking pan moment plate nation) i j
+    → cover_of w book pan moment plate nation ≡ Some (place_at i j) → FirstCover w book pan (asking pan moment plate nation) i j
 unfolding cover_of
 cover_first w book pan moment plate nation n i j e = found_is_first w book pan n (asking pan moment plate nation) i j e
 
 -- and where nothing is answered, no place covers
 pub cover_nothing : (w : ℕ) (book pan moment plate nation : List ℕ) → Named w book pan
-    → cover_of w book pan moment plate nation ≡ Nothing → (i j : ℕ) → Covers w book pan (asking pan moment plate nation) i j → ⊥
+    → cover_of w book pan moment plate nation ≡ None → (i j : ℕ) → Covers w book pan (asking pan moment plate nation) i j → ⊥
 unfolding cover_of
 cover_nothing w book pan moment plate nation n e i j v = nothing_covers w book pan n (asking pan moment plate nation) e i j v

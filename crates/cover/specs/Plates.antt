@@ -1,13 +1,12 @@
 -- The index of a book's periods by plate and nation. A period has a number: 64 for each agreement before its own, and its place there;
 -- so the order of the numbers is the book's, and the number tells the place. Assumes nothing.
-use Rattle.std.specs.Prelude.{◌≡◌, Bool, true, ◌&&◌, cond, List, ℕ, ◌+◌, ◌*◌, ◌/◌, ◌%◌, ◌≤◌, ◌<◌, length, ltb}
+use Rattle.std.specs.Prelude.{◌≡◌, Bool, true, ◌&&◌, cond, List, ℕ, ◌+◌, ◌*◌, ◌/◌, ◌%◌, ◌≤◌, ◌<◌, length, ltb, Option, Some, None}
 use Rattle.chains.specs.Hash.{hash_two}
 use Rattle.chains.specs.Ahead.{Chained, OnWay, link_by}
 use Rattle.book.specs.Layout.{agreements, periods_at, period_of, body_place, plate_part, nation_part, width}
 use Rattle.book.specs.Form.{book_sound}
-use Rattle.cover.specs.Cover.{Asked, period_covers}
-use Rattle.cover.specs.declared.cover.Cover.{Cover}
-use Rattle.cover.specs.declared.cover.Cover.TheVariants.{At, Nothing}
+use Rattle.cover.specs.Cover.{Asked, period_covers, place_at}
+use Rattle.cover.specs.declared.cover.Place.{Place}
 
 -- one link for each of 4,096 hashes, and one for each 40 bytes of the longest book
 abbrev pub plate_links : ℕ
@@ -52,8 +51,8 @@ unfoldable pub covers_number : List ℕ → Asked → ℕ → Bool
 covers_number book q x = numbered book x && period_covers q (period_for book x)
 
 -- the place of number x
-unfoldable pub place_for : List ℕ → ℕ → Cover
-place_for book x = cond (ltb x (numbers_of book)) (At (record { agreement = x / 64 + 1; period = x % 64 + 1 })) Nothing
+unfoldable pub place_for : List ℕ → ℕ → Option Place
+place_for book x = cond (ltb x (numbers_of book)) (Some (place_at (x / 64) (x % 64))) None
 
 -- from the head of a hash, and from a period, the link leads to the next period in book order whose plate and nation have that hash; only numbers from k on are in
 pub record PlatesFrom (book : List ℕ) (k : ℕ) (links : List ℕ) : Type 0 where

@@ -14,13 +14,6 @@ pub struct Place {
     pub period: usize,
 }
 
-// What covers a passage.
-#[derive(Clone, Copy)]
-pub enum Cover {
-    At(Place),
-    Nothing,
-}
-
 // Whether start ≤ moment < end.
 pub fn in_time(period: &[u8], moment: &[u8]) -> bool
     requires { (length period.now ≡ width) × (length moment.now ≡ 14) }
@@ -193,26 +186,26 @@ fn covering_agreement(
 }
 
 // The first period of agreement i that covers.
-fn cover_in(book: &[u8], i: usize, named: bool, moment: &[u8], plate: &[u8], nation: &[u8]) -> Cover
+fn cover_in(book: &[u8], i: usize, named: bool, moment: &[u8], plate: &[u8], nation: &[u8]) -> Option<Place>
     requires { Ready width book.now moment.now }
     ensures { result ≡ cover_in width book.now (asked named moment.now plate.now nation.now) i }
 {
     if i >= agreements_of(book) {
-        return Cover::Nothing;
+        return None;
     }
     let at = body_place(book, i);
     let j = first_covering(book, at, named, moment, plate, nation);
     if j >= periods_at(book, at) {
-        return Cover::Nothing;
+        return None;
     }
-    Cover::At(Place {
+    Some(Place {
         agreement: i + 1,
         period: j + 1,
     })
 }
 
 // What covers a passage with this PAN, exit moment, detected plate and nation: the first period in book order. A sound book is what the check has shown before.
-pub fn cover_at(book: &[u8], pan: &[u8], moment: &[u8], plate: &[u8], nation: &[u8]) -> Cover
+pub fn cover_at(book: &[u8], pan: &[u8], moment: &[u8], plate: &[u8], nation: &[u8]) -> Option<Place>
     requires { Ready width book.now moment.now × (length pan.now ≡ 19) }
     ensures { result ≡ cover_of width book.now pan.now moment.now plate.now nation.now }
 {

@@ -6,7 +6,7 @@ ghost use Rattle.cover.specs.Cover.{asked, period_covers, cover_of, Ready};
 ghost use Rattle.cover.specs.Pans.{PansIndexed};
 ghost use Rattle.cover.specs.Plates.{plate_links, numbers_of, slot_at, covers_number, place_for, PeriodAt, PlatesFrom, PlatesIndexed};
 
-use crate::cover::{Cover, Place, body_place, in_time, is_leased};
+use crate::cover::{Place, body_place, in_time, is_leased};
 use crate::pans::agreement_with;
 use crate::rising::cover_in_time;
 use book::{NATION, PLATE, agreements_of, period_of, periods_at};
@@ -92,15 +92,15 @@ fn first_leased(book: &[u8], links: &[u16], moment: &[u8], plate: &[u8], nation:
     x
 }
 
-// The place of the period of number x, and nothing for a number past the last.
-fn place_for(book: &[u8], x: usize) -> Cover
+// The place of the period of number x, and none for a number past the last.
+fn place_for(book: &[u8], x: usize) -> Option<Place>
     requires { book_sound width book.now ≡ true }
     ensures { result ≡ place_for book.now x }
 {
     if x >= 64 * agreements_of(book) {
-        return Cover::Nothing;
+        return None;
     }
-    Cover::At(Place {
+    Some(Place {
         agreement: x / 64 + 1,
         period: x % 64 + 1,
     })
@@ -116,7 +116,7 @@ pub fn cover_by(
     moment: &[u8],
     plate: &[u8],
     nation: &[u8],
-) -> Cover
+) -> Option<Place>
     requires ready { Ready width book.now moment.now × (length pan.now ≡ 19) × PlatesIndexed book.now links.now }
     requires pans_indexed { PansIndexed book.now heads.now prev.now }
     ensures { result ≡ cover_of width book.now pan.now moment.now plate.now nation.now }

@@ -5,7 +5,7 @@ ghost use Rattle.book.specs.Form.{Body};
 ghost use Rattle.cover.specs.Cover.{asked, covering_period, cover_in, Ready};
 ghost use Rattle.cover.specs.Rising.{start_of, after, Sought};
 
-use crate::cover::{Cover, Place, body_place, in_time};
+use crate::cover::{Place, body_place, in_time};
 use book::{START, agreements_of, period_of, periods_at};
 use lines::{field, is_before};
 
@@ -44,19 +44,19 @@ fn period_in_time(book: &[u8], at: usize, moment: &[u8]) -> usize
 }
 
 // The period of agreement i that covers where a PAN has named it: no plate is compared.
-pub fn cover_in_time(book: &[u8], i: usize, moment: &[u8]) -> Cover
+pub fn cover_in_time(book: &[u8], i: usize, moment: &[u8]) -> Option<Place>
     requires { Ready width book.now moment.now }
     ensures { (plate nation : List ℕ) → result ≡ cover_in width book.now (asked true moment.now plate nation) i }
 {
     if i >= agreements_of(book) {
-        return Cover::Nothing;
+        return None;
     }
     let at = body_place(book, i);
     let j = period_in_time(book, at, moment);
     if j >= periods_at(book, at) {
-        return Cover::Nothing;
+        return None;
     }
-    Cover::At(Place {
+    Some(Place {
         agreement: i + 1,
         period: j + 1,
     })

@@ -2,7 +2,7 @@ ghost use Rattle.std.specs.Prelude.{◌≡◌, ◌*◌, ◌≤◌, length};
 ghost use Rattle.passage.specs.Passage.{line_width};
 ghost use Rattle.debits.specs.Form.{is_debit_type, debit_sound, lines_sound, marks_sound, debits_sound};
 
-use lines::{Digits, Layout, Lines, field, line_count, line_of, read_digits};
+use lines::{Layout, field, line_count, line_of, read_digits};
 use passage::{GROSS_AMOUNT, WIDTH};
 
 // Open debits are lines of a TIF body and nothing else.
@@ -38,7 +38,7 @@ fn debit_sound(line: &[u8]) -> bool
     if !is_debit_type(line[1]) {
         return false;
     }
-    let Digits::Value(_) = read_digits(field(line, GROSS_AMOUNT)) else {
+    let Some(_) = read_digits(field(line, GROSS_AMOUNT)) else {
         return false;
     };
     true
@@ -79,7 +79,7 @@ fn marks_sound(marks: &[u8]) -> bool
 pub fn debits_sound(debits: &[u8], marks: &[u8]) -> bool
     ensures { result ≡ debits_sound debits.now marks.now }
 {
-    let Lines::Of(n) = line_count(DEBITS, debits.len()) else {
+    let Some(n) = line_count(DEBITS, debits.len()) else {
         return false;
     };
     if !lines_sound(debits, n) {

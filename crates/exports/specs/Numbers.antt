@@ -1,12 +1,12 @@
 -- The numbers by which the exported functions tell the paper's words. Assumes nothing.
-use Rattle.std.specs.Prelude.{ℕ, ◌+◌}
+use Rattle.std.specs.Prelude.{ℕ, ◌+◌, Result, Ok, Err}
 use Rattle.tif.specs.declared.side.Side.{Side}
 use Rattle.tif.specs.declared.side.Side.TheVariants.{Credit, Debit, Neither}
 use Rattle.tic_parts.specs.Reading.{fault_number}
-use Rattle.tic_text.specs.declared.values.TicReading.{TicReading}
-use Rattle.tic_text.specs.declared.values.TicReading.TheVariants.{Values}
-use Rattle.tic.specs.declared.rewriting.Rewritten.{Rewritten}
-use Rattle.tic.specs.declared.rewriting.Rewritten.TheVariants.{TooShort, Written}
+use Rattle.tic_text.specs.declared.values.TicFault.{TicFault}
+use Rattle.tic_text.specs.declared.values.TicValues.{TicValues}
+use Rattle.tic.specs.declared.rewriting.RewriteFault.{RewriteFault}
+use Rattle.tic.specs.declared.rewriting.RewriteFault.TheVariants.{Unreadable, TooShort}
 use Rattle.answers.specs.Answer as call
 use Rattle.answers.specs.declared.answer.Answer.{Answer}
 use Rattle.answers.specs.declared.answer.Answer.TheVariants.{Refused, Answered}
@@ -24,12 +24,12 @@ call_number (Refused fault) = call.fault_number fault
 call_number (Answered s) = 0
 
 -- T1 to T5, and 0 for a TIC that reads
-abbrev pub reading_number : TicReading → ℕ
-reading_number (TicReading.Unreadable fault) = fault_number fault
-reading_number (Values v) = 0
+abbrev pub reading_number : Result TicValues TicFault → ℕ
+reading_number (Err fault) = fault_number fault
+reading_number (Ok v) = 0
 
 -- T1 to T5; E7 as 100 more than its number, since it is a call's and not a TIC's; 0 for a TIC that was written
-abbrev pub rewriting_number : Rewritten → ℕ
-rewriting_number (Rewritten.Unreadable fault) = fault_number fault
-rewriting_number TooShort = 100 + call.fault_number Room
-rewriting_number (Written n) = 0
+abbrev pub rewriting_number : Result ℕ RewriteFault → ℕ
+rewriting_number (Err (Unreadable fault)) = fault_number fault
+rewriting_number (Err TooShort) = 100 + call.fault_number Room
+rewriting_number (Ok n) = 0

@@ -1,15 +1,13 @@
 -- What the exported functions over a TIC tell: an answer by its number, and values where there are any. Assumes nothing.
-use Rattle.std.specs.Prelude.{◌≡◌, List, [], ◌∷◌, ℕ, length}
+use Rattle.std.specs.Prelude.{◌≡◌, List, [], ◌∷◌, ℕ, length, Result, Ok, Err}
 use Rattle.tic_parts.specs.Reading.{read_tic}
 use Rattle.tic.specs.Listed.{listed_line, listed_number}
 use Rattle.tic.specs.Rewriting.{rewritten_for, output_of}
-use Rattle.tic_text.specs.declared.values.TicReading.{TicReading}
-use Rattle.tic_text.specs.declared.values.TicReading.TheVariants.{Values}
+use Rattle.tic_text.specs.declared.values.TicFault.{TicFault}
 use Rattle.tic_text.specs.declared.values.TicValues.{TicValues}
-use Rattle.tic.specs.declared.listed.Listed.{Listed}
-use Rattle.tic.specs.declared.listed.Listed.TheVariants.{At, NoSuchLine}
-use Rattle.tic.specs.declared.rewriting.Rewritten.{Rewritten}
-use Rattle.tic.specs.declared.rewriting.Rewritten.TheVariants.{TooShort, Written}
+use Rattle.tic.specs.declared.listed.ListedPlace.{ListedPlace}
+use Rattle.tic.specs.declared.listed.ListedFault.{ListedFault}
+use Rattle.tic.specs.declared.rewriting.RewriteFault.{RewriteFault}
 use Rattle.exports.specs.Numbers.{side_number, reading_number, rewriting_number}
 
 -- ---- reading
@@ -26,9 +24,9 @@ values_told v =
     ∷ []
 
 -- the values afterwards: as they were where the TIC does not read
-abbrev pub values_after : TicReading → List ℕ → List ℕ
-values_after (TicReading.Unreadable fault) values = values
-values_after (Values v) values = values_told v
+abbrev pub values_after : Result TicValues TicFault → List ℕ → List ℕ
+values_after (Err fault) values = values
+values_after (Ok v) values = values_told v
 
 pub record TicRead (tic values : List ℕ) (r : ℕ) (values' : List ℕ) : Type 0 where
   pub answer : r ≡ reading_number (read_tic tic)
@@ -36,10 +34,9 @@ pub record TicRead (tic values : List ℕ) (r : ℕ) (values' : List ℕ) : Type
 
 -- ---- a listed line
 -- where the line and its code begin: as it was where there is no such line
-abbrev pub place_after : Listed → List ℕ → List ℕ
-place_after (At line code) place = line ∷ code ∷ []
-place_after NoSuchLine place = place
-place_after (Listed.Unreadable fault) place = place
+abbrev pub place_after : Result ListedPlace ListedFault → List ℕ → List ℕ
+place_after (Ok found) place = found.line ∷ found.code ∷ []
+place_after (Err fault) place = place
 
 pub record LineListed (tic : List ℕ) (k : ℕ) (place : List ℕ) (r : ℕ) (place' : List ℕ) : Type 0 where
   pub answer : r ≡ listed_number (listed_line tic k)
@@ -47,10 +44,9 @@ pub record LineListed (tic : List ℕ) (k : ℕ) (place : List ℕ) (r : ℕ) (p
 
 -- ---- writing what was read
 -- the length written: as it was where nothing is written
-abbrev pub length_after : Rewritten → List ℕ → List ℕ
-length_after (Rewritten.Unreadable fault) size = size
-length_after TooShort size = size
-length_after (Written n) size = n ∷ []
+abbrev pub length_after : Result ℕ RewriteFault → List ℕ → List ℕ
+length_after (Err fault) size = size
+length_after (Ok n) size = n ∷ []
 
 pub record TicRewritten (tic out size : List ℕ) (r : ℕ) (out' size' : List ℕ) : Type 0 where
   pub answer : r ≡ rewriting_number (rewritten_for tic (length out))

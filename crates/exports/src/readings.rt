@@ -2,8 +2,8 @@ ghost use Rattle.std.specs.Prelude.{◌≡◌};
 ghost use Rattle.exports.specs.Tics.{values_told, TicRead, LineListed};
 
 use crate::numbers::{side_number, tic_fault_number};
-use tic::{Listed, listed_line, read_tic};
-use tic_text::{TicReading, TicValues};
+use tic::{ListedFault, listed_line, read_tic};
+use tic_text::TicValues;
 
 // Writes the seven values of a TIC that was read.
 fn put_values(values: &mut [u64; 7], read: TicValues)
@@ -33,11 +33,11 @@ pub extern "C" fn quindaf_read_tic(tic: &[u8], values: &mut [u64; 7]) -> u32
     ensures { TicRead tic.now values.old result values.new }
 {
     match read_tic(tic) {
-        TicReading::Unreadable(fault) => tic_fault_number(fault),
-        TicReading::Values(read) => {
+        Ok(read) => {
             put_values(values, read);
             0
         }
+        Err(fault) => tic_fault_number(fault),
     }
 }
 
@@ -47,11 +47,11 @@ pub extern "C" fn quindaf_listed(tic: &[u8], k: usize, place: &mut [u64; 2]) -> 
     ensures { LineListed tic.now k place.old result place.new }
 {
     match listed_line(tic, k) {
-        Listed::At(line, code) => {
-            *place = [line as u64, code as u64];
+        Ok(found) => {
+            *place = [found.line as u64, found.code as u64];
             0
         }
-        Listed::NoSuchLine => 6,
-        Listed::Unreadable(fault) => tic_fault_number(fault),
+        Err(ListedFault::NoSuchLine) => 6,
+        Err(ListedFault::Unreadable(fault)) => tic_fault_number(fault),
     }
 }

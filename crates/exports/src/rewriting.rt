@@ -1,7 +1,7 @@
 ghost use Rattle.exports.specs.Tics.{TicRewritten};
 
 use crate::numbers::tic_fault_number;
-use tic::{Rewritten, rewrite_tic};
+use tic::{RewriteFault, rewrite_tic};
 
 // Writes what was read of a TIC: 0 and the length written, or 1 to 5 for T1 to T5, or 107 for E7, with nothing written.
 #[unsafe(no_mangle)]
@@ -9,11 +9,11 @@ pub extern "C" fn quindaf_rewrite_tic(tic: &[u8], out: &mut [u8], length: &mut [
     ensures { TicRewritten tic.now out.old length.old result out.new length.new }
 {
     match rewrite_tic(tic, out) {
-        Rewritten::Unreadable(fault) => tic_fault_number(fault),
-        Rewritten::TooShort => 107,
-        Rewritten::Written(n) => {
+        Ok(n) => {
             *length = [n as u64];
             0
         }
+        Err(RewriteFault::Unreadable(fault)) => tic_fault_number(fault),
+        Err(RewriteFault::TooShort) => 107,
     }
 }

@@ -1,5 +1,4 @@
 use frames::{print_bytes, print_number};
-use lines::Digits;
 use moment::{MomentFault, MomentPart};
 use std::io;
 use std::io::Write;
@@ -35,9 +34,9 @@ pub fn print_plate(to: &mut impl Write, plate: &[u8], nation: &[u8]) -> io::Resu
     print_truth(to, plate::plate_in_book(plate, nation))
 }
 
-pub fn print_digits(to: &mut impl Write, answer: Digits) -> io::Result<()> {
+pub fn print_digits(to: &mut impl Write, answer: Option<u64>) -> io::Result<()> {
     match answer {
-        Digits::Value(v) => print_number(to, v),
-        Digits::NotDigits => print_bytes(to, b"-"),
+        Some(v) => print_number(to, v),
+        None => print_bytes(to, b"-"),
     }
 }

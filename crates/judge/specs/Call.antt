@@ -1,10 +1,9 @@
 -- The call as a whole: what is lent, the answer, and what is lent afterwards. Assumes nothing.
-use Rattle.std.specs.Prelude.{◌≡◌, ℕ, ◌<◌, Bool, true, false, cond, List, [], ◌++◌, length, drop}
+use Rattle.std.specs.Prelude.{◌≡◌, ℕ, ◌<◌, Bool, true, false, cond, List, [], ◌++◌, length, drop, Ok, Err}
 use Rattle.lines.specs.Splice.{splice}
-use Rattle.tif.specs.Acceptance.{acceptance_of}
+use Rattle.tif.specs.Acceptance.{Acceptance, acceptance_of}
 use Rattle.tif.specs.Name.{name_sender}
 use Rattle.tif.specs.Side.{side_of}
-use Rattle.tif.specs.declared.acceptance.Acceptance.{Acceptance}
 use Rattle.tic_text.specs.Text.{Tic, tic_text}
 use Rattle.verdicts.specs.declared.record.Record.{Record}
 use Rattle.judging.specs.Judging.{Judging, judging, marks_before, words_of}
@@ -57,11 +56,8 @@ file_of c = acceptance_of c.name c.names c.tif
 
 -- how many lines are judged: none with 02 to 05
 abbrev pub lines_to_judge : Acceptance → ℕ
-lines_to_judge (Acceptance.Judged w) = w.lines
-lines_to_judge Acceptance.AlreadyReceived = 0
-lines_to_judge Acceptance.OutOfForm = 0
-lines_to_judge Acceptance.CountsDiffer = 0
-lines_to_judge Acceptance.TotalDiffers = 0
+lines_to_judge (Ok w) = w.lines
+lines_to_judge (Err e) = 0
 
 -- the lines are judged by the side of the file, the sender in its name, the book, the open debits and the station table
 abbrev pub judging_of : Call → Judging

@@ -1,5 +1,5 @@
 -- What each step of the call rests on, and what it gives. Assumes nothing.
-use Rattle.std.specs.Prelude.{◌≡◌, ℕ, ◌<◌, ◌≤◌, true, cond, List, [], length, take}
+use Rattle.std.specs.Prelude.{◌≡◌, ℕ, ◌<◌, ◌≤◌, true, cond, List, [], length, take, Ok}
 use Rattle.lines.specs.Rows.{most_lines}
 use Rattle.lines.specs.Splice.{splice}
 use Rattle.tif.specs.Name.{name_sender}
@@ -7,7 +7,6 @@ use Rattle.tif.specs.Side.{side_of}
 use Rattle.tst.specs.Form.{table_sound}
 use Rattle.judging.specs.Judging.{judging, marks_before, words_of}
 use Rattle.judging.specs.Steps.{Given}
-use Rattle.tif.specs.declared.acceptance.Acceptance.{Acceptance}
 use Rattle.tif.specs.declared.acceptance.Whole.{Whole}
 use Rattle.tic_text.specs.Text.{tic_text}
 use Rattle.answers.specs.Told.{head_of, sums_of, too_small}
@@ -50,7 +49,7 @@ pub record SoundReady (c : Call) (words : List ℕ) : Type 0 where
 -- whose file is judged line by line
 pub record FileReady (c : Call) (w : Whole) (words : List ℕ) : Type 0 where
   pub ready : SoundReady c words
-  pub file : file_of c ≡ Acceptance.Judged w
+  pub file : file_of c ≡ Ok w
 
 -- ---- a file that is refused as a whole
 pub record Widths (name received : List ℕ) : Type 0 where

@@ -1,5 +1,5 @@
 -- A file judged line by line: from the words and marks that were found to the call's. Assumes nothing.
-use Rattle.std.specs.Prelude.{◌≡◌, ℕ, ◌+◌, ◌-◌, ◌*◌, ◌<◌, ◌≤◌, false, List, length, take, nat_lt}
+use Rattle.std.specs.Prelude.{◌≡◌, ℕ, ◌+◌, ◌-◌, ◌*◌, ◌<◌, ◌≤◌, false, List, length, take, nat_lt, Ok}
 use Rattle.std.specs.Prelude.{refl}
 use Rattle.std.proofs.Common.{sym, ◌∙◌, arith, take_at, ltb-false}
 use Rattle.std.proofs.Math.Path.{ap}
@@ -8,7 +8,7 @@ use Rattle.lines.specs.BoolLaws.{or_none_left}
 use Rattle.lines.specs.Splice.{splice}
 use Rattle.lines.specs.SpliceLaws.{splice_zero, splice_length}
 use Rattle.tic_text.specs.Text.{tic_text}
-use Rattle.tif.specs.declared.acceptance.Acceptance.{Acceptance}
+use Rattle.tif.specs.Acceptance.{Acceptance}
 use Rattle.tif.specs.declared.acceptance.Whole.{Whole}
 use Rattle.debits.specs.CreditsLaws.{after_length}
 use Rattle.tif.specs.Body.{line_at}
@@ -69,10 +69,10 @@ module _ (c : Call) (w : Whole) (words : List ℕ) (ready : FileReady c w words)
     marks_same : length (take (length c.marks - 0) mine') ≡ length c.marks
     marks_same = rw sub-zero (ap length filled.marked ∙ after_length c.debits (line_at c.tif) (reaches_at j) c.marks w.lines)
 
-    module _ (s : Summary) (is : s ≡ summary_for (Acceptance.Judged w) c.tif (take (w.lines - 0) words')) where
+    module _ (s : Summary) (is : s ≡ summary_for (Ok w) c.tif (take (w.lines - 0) words')) where
       pub told : s ≡ summary_of c
       unfolding summary_of
-      told = is ∙ ap (summary_for (Acceptance.Judged w) c.tif) front ∙ ap (λ (a : Acceptance). summary_for a c.tif (words_judged c)) (sym ready.file)
+      told = is ∙ ap (summary_for (Ok w) c.tif) front ∙ ap (λ (a : Acceptance). summary_for a c.tif (words_judged c)) (sym ready.file)
 
       -- every line recorded has its word and its line
       pub known : (k : ℕ) → k < s.lines → LineKnown c.tif words' k

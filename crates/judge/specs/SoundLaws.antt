@@ -1,5 +1,5 @@
 -- What is known of a call that E1 to E6 and E8 let pass, and of its file where it is judged line by line. Assumes nothing.
-use Rattle.std.specs.Prelude.{◌≡◌, ℕ, ◌+◌, ◌*◌, ◌<◌, ◌≤◌, Bool, true, false, not, List, [], ◌∷◌, length, drop, ◌==◌}
+use Rattle.std.specs.Prelude.{◌≡◌, ℕ, ◌+◌, ◌*◌, ◌<◌, ◌≤◌, Bool, true, false, not, List, [], ◌∷◌, length, drop, ◌==◌, Ok}
 use Rattle.std.specs.Prelude.{refl}
 use Rattle.std.proofs.Common.{ap, arith, eqb-true}
 use Rattle.std.proofs.lemmas.Bool.{not-false}
@@ -19,7 +19,6 @@ use Rattle.tif.specs.JudgedLaws.{judged_shows}
 use Rattle.tif.specs.Name.{is_name}
 use Rattle.tif.specs.NameLaws.{name_shows}
 use Rattle.tif.specs.Received.{names_whole}
-use Rattle.tif.specs.declared.acceptance.Acceptance.{Acceptance}
 use Rattle.tif.specs.declared.acceptance.Whole.{Whole}
 use Rattle.tst.specs.Form.{is_lent, table_sound}
 use Rattle.book.specs.Form.{book_sound}
@@ -126,7 +125,7 @@ unfolding words_of word_at
 words_known j marks n k h = rw (table_at (word_at j marks) n k 0 h) (verdict_known j marks k)
 
 -- a file that is judged line by line
-module _ (c : Call) (s : CallSound c) (w : Whole) (file : file_of c ≡ Acceptance.Judged w) where
+module _ (c : Call) (s : CallSound c) (w : Whole) (file : file_of c ≡ Ok w) where
   pub judged : JudgedFile c.name c.names c.tif w
   judged = judged_shows c.name c.names c.tif w file
 

@@ -12,9 +12,9 @@ use Rattle.tic_text.specs.Text.{Tic, tic_text}
 use Rattle.tic_text.specs.declared.values.TicHead.{TicHead}
 use Rattle.tic_text.specs.declared.values.TicSums.{TicSums}
 use Rattle.debits.specs.Credits.{marks_after}
-use Rattle.tif.specs.declared.acceptance.Acceptance.{Acceptance}
 use Rattle.judging.specs.Judging.{words_of}
 use Rattle.judging.specs.Sums.{count_of, total_of}
+use Rattle.tif.specs.Acceptance.{Acceptance}
 use Rattle.answers.specs.Told.{total_told, file_answer, refused_file, head_of, sums_of, too_small}
 use Rattle.judge.specs.Call.{Call, check_of, file_of, lines_of, lines_to_judge, words_judged, marks_judged, summary_of, tic_of_call}
 use Rattle.judge.specs.Core.{Widths, FileRefused, CallTried}

@@ -9,7 +9,7 @@ use answers::{
 };
 use judging::judge_lines;
 use lines::{field, put_bytes};
-use tif::{Acceptance, NAME_SENDER, Whole, acceptance_of, side_of};
+use tif::{NAME_SENDER, Whole, acceptance_of, side_of};
 
 // Judges the first n lines into the front of words, on marks that are a copy.
 fn judge_parts(
@@ -177,7 +177,7 @@ fn judge_sound(
     ensures { CallTried (call_of name.now received.now card.now names.now book.now debits.now marks.old tif.now tst.now room out.old) words.old result marks.new words.new out.new }
 {
     let acceptance = acceptance_of(name, names, tif);
-    if let Acceptance::Judged(whole) = acceptance {
+    if let Ok(whole) = acceptance {
         return judge_file(
             name, received, card, names, book, debits, marks, tif, tst, whole, room, words, out,
         );

@@ -1,5 +1,5 @@
 -- The verdict on each line of a file, L1 to L9, and the marks after each. Lines are counted from 0 here. Assumes nothing.
-use Rattle.std.specs.Prelude.{Bool, true, false, not, ◌&&◌, cond, List, [], ◌∷◌, ◌++◌, ℕ, Option, Some, None}
+use Rattle.std.specs.Prelude.{Bool, true, false, not, ◌&&◌, cond, List, [], ◌∷◌, ◌++◌, ℕ, Result, Option, Some, None}
 use Rattle.lines.specs.Below.{some_below, table_below}
 use Rattle.lines.specs.FirstOf.{Row, ◌⇒◌, first_of}
 use Rattle.lines.specs.Spans.{agree_on}
@@ -10,12 +10,10 @@ use Rattle.tif.specs.declared.side.Side.TheVariants.{Credit, Debit, Neither}
 use Rattle.tst.specs.Stations.{is_known_station}
 use Rattle.cover.specs.Cover.{cover_of}
 use Rattle.book.specs.Layout.{width}
-use Rattle.cover.specs.declared.cover.Cover.{Cover}
-use Rattle.cover.specs.declared.cover.Cover.TheVariants.{At, Nothing}
+use Rattle.cover.specs.declared.cover.Place.{Place}
 use Rattle.debits.specs.Credits.{marks_after}
 use Rattle.debits.specs.Taking.{taken, took_debit, marks_then}
 use Rattle.verdicts.specs.LineTests.{line_rows, test_line, passes}
-use Rattle.verdicts.specs.declared.line_tests.LineTest.{LineTest}
 use Rattle.verdicts.specs.Verdict.{word_of}
 use Rattle.verdicts.specs.declared.verdict.Verdict.{Verdict}
 use Rattle.verdicts.specs.declared.verdict.Verdict.TheVariants.{Covered, Credits, WrongType, RepeatedLine, NotCovered, NoDebit}
@@ -51,17 +49,17 @@ unfoldable pub repeated_at : List ℕ → ℕ → Bool
 repeated_at tif k = some_below k (repeats_at tif k)
 
 -- what covers a line: by its PAN, exit moment, detected plate and nation
-unfoldable pub cover_on : List ℕ → List ℕ → Cover
+unfoldable pub cover_on : List ℕ → List ℕ → Option Place
 cover_on book line = cover_of width book (pan line) (exit_moment line) (detected_plate line) (detected_nation line)
 
-abbrev pub is_covered : Cover → Bool
-is_covered (At place) = true
-is_covered Nothing = false
+abbrev pub is_covered : Option Place → Bool
+is_covered (Some place) = true
+is_covered None = false
 
 -- an acceptance carries the agreement and period that cover it,
-abbrev pub covered_by : Cover → Verdict
-covered_by (At place) = Covered place
-covered_by Nothing = NotCovered
+abbrev pub covered_by : Option Place → Verdict
+covered_by (Some place) = Covered place
+covered_by None = NotCovered
 
 -- or the debit that it took
 abbrev pub credit_of : Option ℕ → Verdict
@@ -69,11 +67,11 @@ credit_of (Some debit) = Credits debit
 credit_of None = NoDebit
 
 -- a debit that passed L1 to L5 and L9: L6, L7, or covered
-abbrev pub debit_verdict : Bool → Cover → Verdict
+abbrev pub debit_verdict : Bool → Option Place → Verdict
 debit_verdict repeated cover = cond repeated RepeatedLine (covered_by cover)
 
 -- L6 and L7 are for a DEB file, L8 is for a CRE file
-abbrev pub file_rows : Side → Bool → Cover → Option ℕ → List (Row Verdict)
+abbrev pub file_rows : Side → Bool → Option Place → Option ℕ → List (Row Verdict)
 file_rows side repeated cover took =
     ((is_debit_file side && repeated) ⇒ RepeatedLine)
     ∷ ((is_debit_file side && not (is_covered cover)) ⇒ NotCovered)
@@ -81,13 +79,13 @@ file_rows side repeated cover took =
     ∷ []
 
 -- a file of neither side has no line that passes L1
-abbrev pub accepted_by : Side → Cover → Option ℕ → Verdict
+abbrev pub accepted_by : Side → Option Place → Option ℕ → Verdict
 accepted_by Credit cover took = credit_of took
 accepted_by Debit cover took = covered_by cover
 accepted_by Neither cover took = WrongType
 
 -- the verdict on a line that has passed L1 to L5 and L9
-unfoldable pub passed_verdict : Side → Bool → Cover → Option ℕ → Verdict
+unfoldable pub passed_verdict : Side → Bool → Option Place → Option ℕ → Verdict
 passed_verdict side repeated cover took = first_of (file_rows side repeated cover took) (accepted_by side cover took)
 
 -- what line k takes where the marks are these
@@ -99,7 +97,7 @@ abbrev pub known_on : Judging → ℕ → Bool
 known_on j k = is_known_station j.tst (line_at j.tif k)
 
 -- the first test that line k fails before those that look at the file, the book and the debits
-abbrev pub test_on : Judging → ℕ → LineTest
+abbrev pub test_on : Judging → ℕ → Result (Unit {0}) Verdict
 test_on j k = test_line j.side j.sender (known_on j k) (line_at j.tif k)
 
 -- all the tests of line k in order, where the marks are these

@@ -11,13 +11,13 @@ ghost use Rattle.judging.specs.Judging.{repeats_at, repeated_at, cover_on, debit
 ghost use Rattle.judging.specs.Steps.{Given, CreditJudged, PassedJudged, Judged};
 
 use chains::{Heads, Links};
-use cover::{Cover, cover_at};
+use cover::{Place, cover_at};
 use debits::take_debit;
 use lines::{agree_on, field};
 use passage::{DETECTED_NATION, DETECTED_PLATE, EXIT_MOMENT, PAN, REPEAT_SPANS};
 use tif::{Side, tif_line};
 use tst::is_known_station;
-use verdicts::{LineTest, Verdict, test_line};
+use verdicts::{Verdict, test_line};
 
 // Whether line i agrees with line k on what two lines of one file must not share.
 fn repeats(tif: &[u8], k: usize, i: usize) -> bool
@@ -43,7 +43,7 @@ fn is_repeated(tif: &[u8], k: usize) -> bool
 }
 
 // L7: what covers a line.
-fn cover_on(book: &[u8], line: &[u8]) -> Cover
+fn cover_on(book: &[u8], line: &[u8]) -> Option<Place>
     requires { (book_sound width book.now ≡ true) × (length line.now ≡ line_width) }
     ensures { result ≡ cover_on book.now line.now }
 {
@@ -65,8 +65,8 @@ fn judge_debit(book: &[u8], tif: &[u8], k: usize) -> Verdict
         return Verdict::RepeatedLine;
     }
     match cover_on(book, tif_line(tif, k)) {
-        Cover::At(place) => Verdict::Covered(place),
-        Cover::Nothing => Verdict::NotCovered,
+        Some(place) => Verdict::Covered(place),
+        None => Verdict::NotCovered,
     }
 }
 
@@ -119,7 +119,7 @@ pub fn judge_line(
     let line = tif_line(tif, k);
     let known = is_known_station(tst, heads, prev, line);
     match test_line(line, side, sender, known) {
-        LineTest::Fails(v) => v,
-        LineTest::Passes => judge_passed(side, book, debits, marks, tif, k),
+        Err(v) => v,
+        Ok(()) => judge_passed(side, book, debits, marks, tif, k),
     }
 }

@@ -1,5 +1,5 @@
 -- What it shows of a case that its file, its book and its debits were found sound. Assumes nothing.
-use Rattle.std.specs.Prelude.{◌≡◌, true, List, ℕ, ◌-◌, ◌≤◌, ◌<◌, length, take}
+use Rattle.std.specs.Prelude.{◌≡◌, true, List, ℕ, ◌-◌, ◌≤◌, ◌<◌, length, take, Ok}
 use Rattle.std.proofs.Common.{arith, length-take-le}
 use Rattle.lines.specs.Number.{all_digits}
 use Rattle.lines.specs.Rows.{line_place, most_lines}
@@ -14,7 +14,6 @@ use Rattle.judging.specs.Sums.{Worded}
 use Rattle.tif.specs.Columns.{tif_layout}
 use Rattle.tif.specs.Acceptance.{acceptance_of}
 use Rattle.tif.specs.JudgedLaws.{judged_shows}
-use Rattle.tif.specs.declared.acceptance.Acceptance.TheVariants.{Judged}
 use Rattle.tif.specs.declared.acceptance.Whole.{Whole}
 
 -- a file of n lines that is to be judged
@@ -23,7 +22,7 @@ pub record Ready (tif : List ℕ) (n : ℕ) : Type 0 where
   pub few : n ≤ most_lines
   pub digits : (k : ℕ) → k < n → all_digits (gross_amount (line_at tif k)) ≡ true
 
-pub ready_is : (name names tif : List ℕ) (w : Whole) → acceptance_of name names tif ≡ Judged w → Ready tif w.lines
+pub ready_is : (name names tif : List ℕ) (w : Whole) → acceptance_of name names tif ≡ Ok w → Ready tif w.lines
 ready_is name names tif w e =
     let f = judged_shows name names tif w e in
     record { lined = omega (arith, f.framed.counted.long); few = f.framed.counted.few; digits = λ k h. (f.each k h).digits }

@@ -7,14 +7,14 @@ ghost use Rattle.book.specs.Layout.{width};
 ghost use Rattle.judging.specs.Steps.{Given};
 ghost use Rattle.judging_vectors.specs.Cases.{Ready};
 
-use book::{BookForm, check_book};
+use book::check_book;
 use debits::debits_sound;
 use frames::{Kind, print_bytes, print_line_feed, print_marks, print_number, read_kind, read_part};
 use judging::{Sums, Tally, judge_lines, sums_of};
 use lines::field;
 use std::io;
 use std::io::{Read, Write};
-use tif::{Acceptance, NAME_SENDER, acceptance_of, side_of};
+use tif::{NAME_SENDER, acceptance_of, side_of};
 
 // As many lines as a file may bring.
 const MOST: usize = 16;
@@ -105,7 +105,7 @@ fn run_sound(
     if !debits_sound(debits, marks) {
         return Ok(false);
     }
-    let Acceptance::Judged(whole) = acceptance_of(name, &name[0..0], tif) else {
+    let Ok(whole) = acceptance_of(name, &name[0..0], tif) else {
         return Ok(false);
     };
     let n = whole.lines;
@@ -133,10 +133,10 @@ fn run_file(
     tif: &[u8],
 ) -> io::Result<bool> {
     let mut words = [0u64; MOST];
-    match check_book(book) {
-        BookForm::Sound => run_sound(to, name, book, debits, marks, tif, &mut words),
-        BookForm::OutOfForm => Ok(false),
+    if !check_book(book) {
+        return Ok(false);
     }
+    run_sound(to, name, book, debits, marks, tif, &mut words)
 }
 
 // A case of a name, a book, debits, marks and a TIF; false where it breaks off or a part is too long.

@@ -1,9 +1,7 @@
 -- Numbers as bytes: decimal digits, and big-endian. Assumes nothing.
-use Rattle.std.specs.Prelude.{Bool, cond, List, [], ◌∷◌, ◌++◌, ℕ, zero, suc, ◌+◌, ◌-◌, ◌*◌, ◌/◌, ◌%◌, ◌^◌, ◌<◌, ◌≡◌, length, get_or}
+use Rattle.std.specs.Prelude.{Bool, cond, List, [], ◌∷◌, ◌++◌, ℕ, zero, suc, ◌+◌, ◌-◌, ◌*◌, ◌/◌, ◌%◌, ◌^◌, ◌<◌, ◌≡◌, length, get_or, Option, Some, None}
 use Rattle.lines.specs.Class.{all_of}
 use Rattle.lines.specs.declared.class.Class.TheVariants.{Digit}
-use Rattle.lines.specs.declared.number.Digits.{Digits}
-use Rattle.lines.specs.declared.number.Digits.TheVariants.{Value, NotDigits}
 
 -- the number that the first k bytes write to a base, the byte `nought` standing for 0
 unfoldable pub value_below : ℕ → ℕ → ℕ → List ℕ → ℕ
@@ -22,8 +20,8 @@ unfoldable pub big_endian : List ℕ → ℕ
 big_endian s = value_below 256 0 (length s) s
 
 -- what a field that should be digits holds
-unfoldable pub read_digits : List ℕ → Digits
-read_digits s = cond (all_digits s) (Value (number_of s)) NotDigits
+unfoldable pub read_digits : List ℕ → Option ℕ
+read_digits s = cond (all_digits s) (Some (number_of s)) None
 
 -- its value, and zero where it is not digits
 unfoldable pub value_of : List ℕ → ℕ

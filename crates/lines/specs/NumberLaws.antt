@@ -1,5 +1,5 @@
 -- The laws of numbers as bytes. Assumes nothing.
-use Rattle.std.specs.Prelude.{◌≡◌, Bool, true, false, cond, List, [], ◌∷◌, ◌++◌, length}
+use Rattle.std.specs.Prelude.{◌≡◌, Bool, true, false, cond, List, [], ◌∷◌, ◌++◌, length, Some, None}
 use Rattle.std.proofs.Math.Path.{refl}
 use Rattle.std.proofs.Common.{◌∙◌, pow-suc, lt_of_lt_of_le, add-one, sub-one, arith, length-append, lit<}
 use Prim.Native.Nat.{ℕ, zero, suc, ◌+◌, ◌-◌, ◌*◌, ◌/◌, ◌%◌, ◌^◌, ◌≤◌, ◌<◌}
@@ -11,7 +11,6 @@ use Rattle.lines.specs.Class.{is_of, all_of, all_bytes, byte_is}
 use Rattle.lines.specs.ClassLaws.{digit_is}
 use Rattle.lines.specs.Number.{value_below, all_digits, number_of, read_digits, digits_of, value_of}
 use Rattle.lines.specs.declared.class.Class.TheVariants.{Digit}
-use Rattle.lines.specs.declared.number.Digits.TheVariants.{Value, NotDigits}
 
 -- ---- a number to any base
 module _ (base nought : ℕ) (s : List ℕ) where
@@ -47,19 +46,19 @@ pub number_small : (s : List ℕ) (w : ℕ) → length s ≤ w → all_digits s 
 unfolding all_digits number_of all_of all_bytes
 number_small s w h e = lt_of_lt_of_le (digits_below s (length s) e) (pow-le-pow_right (lit< tt) {i = length s} {j = w} h)
 
-pub read_good : (s : List ℕ) (v : ℕ) → read_digits s ≡ Value v → (all_digits s ≡ true) × (v ≡ number_of s)
+pub read_good : (s : List ℕ) (v : ℕ) → read_digits s ≡ Some v → (all_digits s ≡ true) × (v ≡ number_of s)
 unfolding read_digits
 read_good s v e = go (all_digits s) e
   where
-    go : (b : Bool) → cond b (Value (number_of s)) NotDigits ≡ Value v → (b ≡ true) × (v ≡ number_of s)
+    go : (b : Bool) → cond b (Some (number_of s)) None ≡ Some v → (b ≡ true) × (v ≡ number_of s)
     go true p = (refl, cc)
     go false p = let z : ◌≡◌ {A = ℕ} 0 1 = cc in absurd (omega arith)
 
-pub read_bad : (s : List ℕ) → read_digits s ≡ NotDigits → all_digits s ≡ false
+pub read_bad : (s : List ℕ) → read_digits s ≡ None → all_digits s ≡ false
 unfolding read_digits
 read_bad s e = go (all_digits s) e
   where
-    go : (b : Bool) → cond b (Value (number_of s)) NotDigits ≡ NotDigits → b ≡ false
+    go : (b : Bool) → cond b (Some (number_of s)) None ≡ None → b ≡ false
     go true p = let z : ◌≡◌ {A = ℕ} 0 1 = cc in absurd (omega arith)
     go false p = refl
 

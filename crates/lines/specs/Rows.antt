@@ -1,11 +1,9 @@
 -- Files of fixed-width rows: a header, lines of one width, a footer, each ending in a line feed. Assumes nothing.
-use Rattle.std.specs.Prelude.{◌≡◌, Bool, ◌&&◌, cond, List, ℕ, ◌+◌, ◌-◌, ◌*◌, ◌/◌, ◌≤◌, ◌<◌, length, take, drop, eqb, leb}
+use Rattle.std.specs.Prelude.{◌≡◌, Bool, ◌&&◌, cond, List, ℕ, ◌+◌, ◌-◌, ◌*◌, ◌/◌, ◌≤◌, ◌<◌, length, take, drop, eqb, leb, Option, Some, None}
 use Rattle.lines.specs.Below.{all_below}
 use Rattle.lines.specs.Class.{place_of}
 use Rattle.lines.specs.declared.class.Class.TheVariants.{Only}
 use Rattle.lines.specs.declared.rows.Layout.{Layout}
-use Rattle.lines.specs.declared.rows.Lines.{Lines}
-use Rattle.lines.specs.declared.rows.Lines.TheVariants.{Of, OutOfForm}
 
 -- no file has more lines
 abbrev pub most_lines : ℕ
@@ -38,8 +36,8 @@ unfoldable pub count_fits : Layout → ℕ → Bool
 count_fits l size = eqb size (file_length l (lines_for l size)) && leb (lines_for l size) most_lines
 
 -- the number of lines that the length gives
-unfoldable pub line_count : Layout → ℕ → Lines
-line_count l size = cond (count_fits l size) (Of (lines_for l size)) OutOfForm
+unfoldable pub line_count : Layout → ℕ → Option ℕ
+line_count l size = cond (count_fits l size) (Some (lines_for l size)) None
 
 -- the row's first line feed is its last byte
 unfoldable pub one_feed : List ℕ → Bool
@@ -53,8 +51,8 @@ unfoldable pub feeds_stand : Layout → List ℕ → ℕ → Bool
 feeds_stand l file n = one_feed (header_of l file) && all_below n (line_feed_at l file) && one_feed (footer_of l file n)
 
 -- the number of lines of a file whose length and line feeds are right
-unfoldable pub framed_lines : Layout → List ℕ → Lines
-framed_lines l file = cond (count_fits l (length file) && feeds_stand l file (lines_for l (length file))) (Of (lines_for l (length file))) OutOfForm
+unfoldable pub framed_lines : Layout → List ℕ → Option ℕ
+framed_lines l file = cond (count_fits l (length file) && feeds_stand l file (lines_for l (length file))) (Some (lines_for l (length file))) None
 
 -- a layout with lines, of widths that cannot wrap
 pub record Laid (l : Layout) : Type 0 where

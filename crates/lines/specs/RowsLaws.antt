@@ -1,6 +1,6 @@
 -- What is known of a file of fixed-width rows once its length, or its length and its line feeds, are right. Assumes nothing.
 use Rattle.std.proofs.Math.Path.{◌≡◌, refl, sym}
-use Rattle.std.specs.Prelude.{Bool, ◌&&◌, List, ℕ, ◌+◌, ◌*◌, ◌≤◌, ◌<◌, length, drop, eqb, leb}
+use Rattle.std.specs.Prelude.{Bool, ◌&&◌, List, ℕ, ◌+◌, ◌*◌, ◌≤◌, ◌<◌, length, drop, eqb, leb, Some, None}
 use Rattle.std.proofs.Math.Bool.{true, false, cond}
 use Rattle.std.proofs.Common.{mul-le-mul_right, add-mul, arith}
 use Rattle.std.proofs.Math.ListN.{length-drop}
@@ -10,7 +10,6 @@ use Rattle.lines.specs.Below.{all_below}
 use Rattle.lines.specs.BoolLaws.{and_true, and_left, and_right, and_false_left, and_false_right}
 use Rattle.lines.specs.Rows.{most_lines, line_place, file_length, header_of, line_of, footer_of, lines_for, count_fits, line_count, one_feed, line_feed_at, feeds_stand, framed_lines, Counted}
 use Rattle.lines.specs.declared.rows.Layout.{Layout}
-use Rattle.lines.specs.declared.rows.Lines.TheVariants.{Of, OutOfForm}
 
 -- line k of n ends before the footer begins
 pub line_ends : (l : Layout) (n k : ℕ) → k < n → line_place l k + l.line ≤ line_place l n
@@ -38,11 +37,11 @@ module _ (l : Layout) (file : List ℕ) where
 
 -- ---- the length
 module _ (l : Layout) (size : ℕ) where
-  pub fits_not_long : (size ≡ file_length l (lines_for l size) → ⊥) → line_count l size ≡ OutOfForm
+  pub fits_not_long : (size ≡ file_length l (lines_for l size) → ⊥) → line_count l size ≡ None
   unfolding line_count count_fits
   fits_not_long h = rw (ne_eqb size (file_length l (lines_for l size)) h)
 
-  pub fits_not_few : most_lines < lines_for l size → line_count l size ≡ OutOfForm
+  pub fits_not_few : most_lines < lines_for l size → line_count l size ≡ None
   unfolding line_count count_fits
   fits_not_few h = rw (and_false_right (eqb size (file_length l (lines_for l size))) (leb (lines_for l size) most_lines) (lt-leb (lines_for l size) most_lines h))
 
@@ -50,7 +49,7 @@ module _ (l : Layout) (size : ℕ) where
   unfolding count_fits
   fits_yes h k = and_true (eqb size (file_length l (lines_for l size))) (leb (lines_for l size) most_lines) (eq-eqb size (file_length l (lines_for l size)) h) (le-leb (lines_for l size) most_lines k)
 
-  pub count_yes : count_fits l size ≡ true → line_count l size ≡ Of (lines_for l size)
+  pub count_yes : count_fits l size ≡ true → line_count l size ≡ Some (lines_for l size)
   unfolding line_count
   count_yes e = rw e
 
@@ -63,19 +62,19 @@ module _ (l : Layout) (size : ℕ) where
       }
 
   -- an answer with a number says what the length is
-  pub count_is : (n : ℕ) → line_count l size ≡ Of n → (count_fits l size ≡ true) × (n ≡ lines_for l size) × Counted l size n
+  pub count_is : (n : ℕ) → line_count l size ≡ Some n → (count_fits l size ≡ true) × (n ≡ lines_for l size) × Counted l size n
   unfolding line_count
   count_is n e = go (count_fits l size) refl e
     where
-      go : (b : Bool) → count_fits l size ≡ b → cond b (Of (lines_for l size)) OutOfForm ≡ Of n → (count_fits l size ≡ true) × (n ≡ lines_for l size) × Counted l size n
+      go : (b : Bool) → count_fits l size ≡ b → cond b (Some (lines_for l size)) None ≡ Some n → (count_fits l size ≡ true) × (n ≡ lines_for l size) × Counted l size n
       go true f p = let q : lines_for l size ≡ n = cc in (f, sym q, rw q at (fits_is f))
       go false f p = let z : ◌≡◌ {A = ℕ} 0 1 = cc in absurd (omega arith)
 
-  pub count_not : line_count l size ≡ OutOfForm → count_fits l size ≡ false
+  pub count_not : line_count l size ≡ None → count_fits l size ≡ false
   unfolding line_count
   count_not e = go (count_fits l size) e
     where
-      go : (b : Bool) → cond b (Of (lines_for l size)) OutOfForm ≡ OutOfForm → b ≡ false
+      go : (b : Bool) → cond b (Some (lines_for l size)) None ≡ None → b ≡ false
       go true p = let z : ◌≡◌ {A = ℕ} 0 1 = cc in absurd (omega arith)
       go false p = refl
 
@@ -86,24 +85,24 @@ pub record Framed (l : Layout) (file : List ℕ) (n : ℕ) : Type 0 where
   pub feeds : feeds_stand l file n ≡ true
 
 module _ (l : Layout) (file : List ℕ) where
-  pub framed_not_fits : count_fits l (length file) ≡ false → framed_lines l file ≡ OutOfForm
+  pub framed_not_fits : count_fits l (length file) ≡ false → framed_lines l file ≡ None
   unfolding framed_lines
   framed_not_fits e = rw e
 
-  pub framed_not_feeds : feeds_stand l file (lines_for l (length file)) ≡ false → framed_lines l file ≡ OutOfForm
+  pub framed_not_feeds : feeds_stand l file (lines_for l (length file)) ≡ false → framed_lines l file ≡ None
   unfolding framed_lines
   framed_not_feeds e = rw (and_false_right (count_fits l (length file)) (feeds_stand l file (lines_for l (length file))) e)
 
-  pub framed_yes : count_fits l (length file) ≡ true → feeds_stand l file (lines_for l (length file)) ≡ true → framed_lines l file ≡ Of (lines_for l (length file))
+  pub framed_yes : count_fits l (length file) ≡ true → feeds_stand l file (lines_for l (length file)) ≡ true → framed_lines l file ≡ Some (lines_for l (length file))
   unfolding framed_lines
   framed_yes e f = rw (e, f)
 
-  pub framed_is : (n : ℕ) → framed_lines l file ≡ Of n → Framed l file n
+  pub framed_is : (n : ℕ) → framed_lines l file ≡ Some n → Framed l file n
   unfolding framed_lines
   framed_is n e = go (count_fits l (length file)) refl (feeds_stand l file (lines_for l (length file))) refl e
     where
       go : (a : Bool) → count_fits l (length file) ≡ a → (b : Bool) → feeds_stand l file (lines_for l (length file)) ≡ b
-          → cond (a && b) (Of (lines_for l (length file))) OutOfForm ≡ Of n → Framed l file n
+          → cond (a && b) (Some (lines_for l (length file))) None ≡ Some n → Framed l file n
       go true f true g p =
           let q : lines_for l (length file) ≡ n = cc in
           record { counted = rw q at (fits_is l (length file) f); feeds = rw q at g }

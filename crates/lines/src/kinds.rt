@@ -1,15 +1,15 @@
-ghost use Rattle.std.specs.Prelude.{◌≡◌, ◌+◌, ◌^◌, ◌<◌, eqb};
+ghost use Rattle.std.specs.Prelude.{◌≡◌, ◌+◌, ◌^◌, ◌<◌};
 
-// A fee without VAT, in 1/100 NOK. Nothing is added to it or compared with it.
-#[derive(Clone, Copy)]
+// A fee without VAT, in 1/100 NOK. Nothing is added to it.
+#[derive(Clone, Copy, PartialEq, Eq)]
 pub struct Net(pub u64);
 
 // An amount with VAT, in 1/100 NOK.
-#[derive(Clone, Copy)]
+#[derive(Clone, Copy, PartialEq, Eq)]
 pub struct Gross(pub u64);
 
 // A number of records or transactions.
-#[derive(Clone, Copy)]
+#[derive(Clone, Copy, PartialEq, Eq)]
 pub struct Count(pub u64);
 
 impl Gross {
@@ -18,19 +18,5 @@ impl Gross {
         ensures { result.0 ≡ self.0 + other.0 }
     {
         Gross(self.0 + other.0)
-    }
-
-    pub fn equals(self, other: Gross) -> bool
-        ensures { result ≡ eqb self.0 other.0 }
-    {
-        self.0 == other.0
-    }
-}
-
-impl Count {
-    pub fn equals(self, other: Count) -> bool
-        ensures { result ≡ eqb self.0 other.0 }
-    {
-        self.0 == other.0
     }
 }

@@ -4,15 +4,8 @@ ghost use Rattle.lines.specs.Number.{all_digits, number_of, read_digits, value_o
 use crate::class::{Class, is_of};
 use crate::word::wide;
 
-// What a field that should be digits holds.
-#[derive(Clone, Copy)]
-pub enum Digits {
-    Value(u64),
-    NotDigits,
-}
-
-// Reads a field of at most 15 digits.
-pub fn read_digits(s: &[u8]) -> Digits
+// The number of a field of at most 15 digits, where it is digits.
+pub fn read_digits(s: &[u8]) -> Option<u64>
     requires { length s.now ≤ 15 }
     ensures { result ≡ read_digits s.now }
 {
@@ -21,23 +14,21 @@ pub fn read_digits(s: &[u8]) -> Digits
     while i < s.len() {
         let b = s[i];
         if !is_of(Class::Digit, b) {
-            return Digits::NotDigits;
+            return None;
         }
         v = v * 10 + (wide(b) - 48);
         i += 1;
     }
-    Digits::Value(v)
+    Some(v)
 }
 
 // The value of a field of at most 15 digits, and zero where it is not digits.
+#[tactic(auto, unfolding(crate::specs::Number::read_digits, crate::specs::Number::value_of))]
 pub fn value_of(s: &[u8]) -> u64
     requires { length s.now ≤ 15 }
     ensures { result ≡ value_of s.now }
 {
-    match read_digits(s) {
-        Digits::Value(v) => v,
-        Digits::NotDigits => 0,
-    }
+    read_digits(s).unwrap_or(0)
 }
 
 // The number of a field that is known to be digits.

@@ -11,13 +11,6 @@ pub struct Layout {
     pub footer: usize,
 }
 
-// How many lines a file has.
-#[derive(Clone, Copy)]
-pub enum Lines {
-    Of(usize),
-    OutOfForm,
-}
-
 pub fn header_of(layout: Layout, file: &[u8]) -> &[u8]
     requires { layout.header ≤ length file.now }
     ensures { result.now ≡ header_of layout file.now }
@@ -47,22 +40,22 @@ pub fn footer_of(layout: Layout, file: &[u8], n: usize) -> &[u8]
 }
 
 // How many lines a file of `size` bytes has, at most 9,999.
-pub fn line_count(layout: Layout, size: usize) -> Lines
+pub fn line_count(layout: Layout, size: usize) -> Option<usize>
     requires { Laid layout }
     ensures { result ≡ line_count layout size }
 {
     let ends = layout.header + layout.footer;
     if size < ends {
-        return Lines::OutOfForm;
+        return None;
     }
     let n = (size - ends) / layout.line;
     if n > 9999 {
-        return Lines::OutOfForm;
+        return None;
     }
     if size != ends + n * layout.line {
-        return Lines::OutOfForm;
+        return None;
     }
-    Lines::Of(n)
+    Some(n)
 }
 
 // Whether the row's only line feed is its last byte.
@@ -95,15 +88,15 @@ fn feeds_stand(layout: Layout, file: &[u8], n: usize) -> bool
 }
 
 // How many lines a file has whose length and line feeds are right.
-pub fn framed_lines(layout: Layout, file: &[u8]) -> Lines
+#[tactic(auto, unfolding(crate::specs::Rows::line_count, crate::specs::Rows::framed_lines))]
+pub fn framed_lines(layout: Layout, file: &[u8]) -> Option<usize>
     requires { Laid layout }
     ensures { result ≡ framed_lines layout file.now }
 {
-    let Lines::Of(n) = line_count(layout, file.len()) else {
-        return Lines::OutOfForm;
-    };
-    if !feeds_stand(layout, file, n) {
-        return Lines::OutOfForm;
+    let n = line_count(layout, file.len())?;
+    if feeds_stand(layout, file, n) {
+        Some(n)
+    } else {
+        None
     }
-    Lines::Of(n)
 }

@@ -2,14 +2,13 @@
 -- else does. Reading the TIC gives back exactly its refusals, and writing what was read gives the same bytes. Accepted and refused amounts add up to the
 -- TIF's total, and the counts to its lines.
 -- All of this is of any call that is answered, whatever was lent: s is what it told, and out' the output afterwards. Assumes nothing.
-use Rattle.std.specs.Prelude.{◌≡◌, true, List, ◌++◌, ℕ, ◌+◌, ◌≤◌, ◌<◌, length, get_or, drop, eqb}
+use Rattle.std.specs.Prelude.{◌≡◌, true, List, ◌++◌, ℕ, ◌+◌, ◌≤◌, ◌<◌, length, get_or, drop, eqb, Result, Ok, Err}
 use Rattle.std.proofs.Math.Path.{sym, ap}
 use Rattle.std.proofs.Common.{◌∙◌, subst, arith}
 use Rattle.std.proofs.Math.Bool.{not}
 use Rattle.tif.specs.Acceptance.{tif_footer}
 use Rattle.tif.specs.Body.{line_at, body_total}
 use Rattle.tif.specs.Footer.{total_of}
-use Rattle.tif.specs.declared.acceptance.Acceptance.{Acceptance}
 use Rattle.tif.specs.declared.acceptance.Whole.{Whole}
 use Rattle.tic.specs.Listed.{listed_line, shown_line, shown_code}
 use Rattle.tic_parts.specs.Reading.{read_tic}
@@ -19,10 +18,8 @@ use Rattle.tic.specs.Rewriting.{Rewrites}
 use Rattle.tic.specs.Sound.{Sound, numbers_of}
 use Rattle.tic_text.specs.Text.{tic_text}
 use Rattle.tic.specs.WriteThenRead.{write_then_read, no_other}
-use Rattle.tic.specs.declared.listed.Listed.TheVariants.{NoSuchLine}
-use Rattle.tic.specs.declared.rewriting.Rewritten.{Rewritten}
-use Rattle.tic.specs.declared.rewriting.Rewritten.TheVariants.{Written}
-use Rattle.tic_text.specs.declared.values.TicReading.TheVariants.{Values}
+use Rattle.tic.specs.declared.listed.ListedFault.TheVariants.{NoSuchLine}
+use Rattle.tic.specs.declared.rewriting.RewriteFault.{RewriteFault}
 use Rattle.verdicts.specs.declared.record.Record.{Record}
 use Rattle.verdicts.specs.Record.{record_of}
 use Rattle.verdicts.specs.Verdict.{verdict_number}
@@ -76,7 +73,7 @@ module _ (c : Call) (records : List Record) (marks' : List ℕ) (records' : List
 
   -- ---- each refused line stands in the TIC once, in file order, and nothing else does
   -- the TIC reads, and lists as many lines as are refused
-  pub tic_reads : (read_tic tic ≡ Values (numbers_of (values_of_tic c))) × ((numbers_of (values_of_tic c)).listed ≡ s.refused)
+  pub tic_reads : (read_tic tic ≡ Ok (numbers_of (values_of_tic c))) × ((numbers_of (values_of_tic c)).listed ≡ s.refused)
   tic_reads = (ap read_tic written ∙ rendered_is_accepted (values_of_tic c) sound, sym refused_is)
 
   -- listed line i of the TIC, counted from 1, is line k of the file, counted from 0: its columns 1 to 809 with the code of its verdict
@@ -108,7 +105,7 @@ module _ (c : Call) (records : List Record) (marks' : List ℕ) (records' : List
   listed_in_order i i' l h = in_order (words_judged c) i i' l (omega (arith, h, refused_is, refused_count c))
 
   -- no other line is listed
-  pub nothing_else : (listed_line tic 0 ≡ NoSuchLine) × ((i : ℕ) → s.refused < i → listed_line tic i ≡ NoSuchLine)
+  pub nothing_else : (listed_line tic 0 ≡ Err NoSuchLine) × ((i : ℕ) → s.refused < i → listed_line tic i ≡ Err NoSuchLine)
   nothing_else =
       let n = no_other (values_of_tic c) sound in
       (ap (λ (t : List ℕ). listed_line t 0) written ∙ n.0, λ i h. ap (λ (t : List ℕ). listed_line t i) written ∙ n.1 i (omega (arith, h, refused_is)))
@@ -123,8 +120,8 @@ module _ (c : Call) (records : List Record) (marks' : List ℕ) (records' : List
 
   -- ---- writing what was read gives the same bytes
   -- whatever is lent for it, if it is no shorter than the TIC
-  pub written_again : (out₂ : List ℕ) (r₂ : Rewritten) (out₂' : List ℕ) → Rewrites tic out₂ r₂ out₂' → length tic ≤ length out₂
-      → (r₂ ≡ Written (length tic)) × (out₂' ≡ tic ++ drop (length tic) out₂)
+  pub written_again : (out₂ : List ℕ) (r₂ : Result ℕ RewriteFault) (out₂' : List ℕ) → Rewrites tic out₂ r₂ out₂' → length tic ≤ length out₂
+      → (r₂ ≡ Ok (length tic)) × (out₂' ≡ tic ++ drop (length tic) out₂)
   written_again out₂ r₂ out₂' again room = read_then_write tic out₂ r₂ out₂' (numbers_of (values_of_tic c)) again tic_reads.0 room
 
   -- ---- in a file judged line by line
@@ -135,7 +132,7 @@ module _ (c : Call) (records : List Record) (marks' : List ℕ) (records' : List
     pub amounts : s.accepted_amount.0 + s.refused_amount.0 ≡ total_of (tif_footer c.tif w.lines)
     pub total : s.total.0 ≡ total_of (tif_footer c.tif w.lines)
 
-  pub adds_up : (w : Whole) → file_of c ≡ Acceptance.Judged w → AddsUp w
+  pub adds_up : (w : Whole) → file_of c ≡ Ok w → AddsUp w
   unfolding summary_of
   adds_up w e =
       let file = judged c (check_shows c (shows c records marks' records' out' s j).sound) w e in

@@ -2,12 +2,12 @@
 -- and the records lent, the answer r, and the marks, records and output afterwards. Lines and places of debits are counted from 0 here, the number
 -- of a debit in a record from 1. The two statements for one call come first, each in words and then as a type: 1 is proved by `credits_decided` and 2 by
 -- `marks_follow_records`, below them. Those over sequences of calls are in Demand3Sequence. Assumes nothing.
-use Rattle.std.specs.Prelude.{◌≡◌, refl, Bool, true, List, [], ℕ, ◌+◌, ◌-◌, ◌≤◌, ◌<◌, length, get_or}
+use Rattle.std.specs.Prelude.{◌≡◌, refl, Bool, true, List, [], ℕ, ◌+◌, ◌-◌, ◌≤◌, ◌<◌, length, get_or, Ok, Err}
 use Rattle.std.proofs.Common.{sym, ap, ◌∙◌, arith}
+use Rattle.tif.specs.Acceptance.{Acceptance}
 use Rattle.tif.specs.Body.{line_at}
 use Rattle.tif.specs.Name.{name_sender}
 use Rattle.tif.specs.Side.{side_of}
-use Rattle.tif.specs.declared.acceptance.Acceptance.{Acceptance}
 use Rattle.tif.specs.declared.acceptance.Whole.{Whole}
 use Rattle.tif.specs.declared.side.Side.{Side}
 use Rattle.tif.specs.declared.side.Side.TheVariants.{Credit, Debit}
@@ -19,7 +19,6 @@ use Rattle.debits.proofs.Demand3Laws.{accepted_or_refused}
 use Rattle.debits.specs.Taking.{agrees, took_debit}
 use Rattle.verdicts.specs.LineTests.{test_line}
 use Rattle.verdicts.specs.Record.{record_of}
-use Rattle.verdicts.specs.declared.line_tests.LineTest.TheVariants.{Passes}
 use Rattle.verdicts.specs.declared.record.Record.{Record}
 use Rattle.verdicts.specs.declared.verdict.Verdict.{Verdict}
 use Rattle.verdicts.specs.declared.verdict.Verdict.TheVariants.{Credits, WrongType, NoDebit}
@@ -47,10 +46,10 @@ credits_debit verdict = took_debit (debit_of verdict)
 -- for DEB)
 pub record PassesOthers (c : Call) (k : ℕ) : Type 0 where
   pub whole : Whole
-  pub line_by_line : file_of c ≡ Acceptance.Judged whole
+  pub line_by_line : file_of c ≡ Ok whole
   pub there : k < whole.lines
   pub credit : side_of c.tif ≡ Credit
-  pub passing : test_line Credit (name_sender c.name) (known_on (judging_of c) k) (line_at c.tif k) ≡ Passes
+  pub passing : test_line Credit (name_sender c.name) (known_on (judging_of c) k) (line_at c.tif k) ≡ Ok tt
 
 -- an assignment gives line k, and each credit accepted before it in the call's file, a separate agreeing debit of those lent, unmarked when lent
 abbrev pub AssignedIn : Call → ℕ → Type 0
@@ -107,14 +106,11 @@ passes_reaching : (c : Call) (k : ℕ) → k < lines_to_record (answer_of c) →
 passes_reaching c k h reach = go (answer_of c) refl
   where
     file : k < lines_of c → (a : Acceptance) → file_of c ≡ a → PassesOthers c k
-    file l (Acceptance.Judged w) e =
+    file l (Ok w) e =
         let n : lines_of c ≡ w.lines = ap lines_to_judge e in
         let t = reaches_is (judging_of c) c.marks k reach in
         record { whole = w; line_by_line = e; there = omega (arith, l, n); credit = t.0; passing = ap (λ (s : Side). test_line s (name_sender c.name) (known_on (judging_of c) k) (line_at c.tif k)) (sym t.0) ∙ t.1 }
-    file l Acceptance.AlreadyReceived e = let n : lines_of c ≡ 0 = ap lines_to_judge e in absurd (omega (arith, l, n))
-    file l Acceptance.OutOfForm e = let n : lines_of c ≡ 0 = ap lines_to_judge e in absurd (omega (arith, l, n))
-    file l Acceptance.CountsDiffer e = let n : lines_of c ≡ 0 = ap lines_to_judge e in absurd (omega (arith, l, n))
-    file l Acceptance.TotalDiffers e = let n : lines_of c ≡ 0 = ap lines_to_judge e in absurd (omega (arith, l, n))
+    file l (Err f) e = let n : lines_of c ≡ 0 = ap lines_to_judge e in absurd (omega (arith, l, n))
 
     go : (a : Answer) → answer_of c ≡ a → PassesOthers c k
     go (Refused f) e = let z : lines_to_record (answer_of c) ≡ 0 = ap lines_to_record e in absurd (omega (arith, h, z))

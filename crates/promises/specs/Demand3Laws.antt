@@ -1,5 +1,5 @@
 -- What demand 3 rests on for a whole file: the verdict on a line says whether it takes a debit, and which; the marks follow. Assumes nothing.
-use Rattle.std.specs.Prelude.{◌≡◌, Bool, ◌&&◌, List, eqb, Option, Some, None}
+use Rattle.std.specs.Prelude.{◌≡◌, Bool, ◌&&◌, List, eqb, Result, Ok, Err, Option, Some, None}
 use Rattle.std.proofs.Math.Path.{refl, sym, ap}
 use Rattle.std.proofs.Common.{◌∙◌, true≢false, arith, get_or-set_same, get_or-set_other}
 use Rattle.std.proofs.Math.Bool.{true, false, not}
@@ -12,8 +12,7 @@ use Rattle.lines.specs.BoolLaws.{and_left, and_right}
 use Rattle.tif.specs.Body.{line_at}
 use Rattle.tif.specs.declared.side.Side.{Side}
 use Rattle.tif.specs.declared.side.Side.TheVariants.{Credit, Debit, Neither}
-use Rattle.cover.specs.declared.cover.Cover.{Cover}
-use Rattle.cover.specs.declared.cover.Cover.TheVariants.{At, Nothing}
+use Rattle.cover.specs.declared.cover.Place.{Place}
 use Rattle.debits.specs.Assignment.{Exactly}
 use Rattle.debits.specs.Credits.{marks_after, taken_at, place_at, credit_accepted, credit_refused}
 use Rattle.debits.specs.CreditsLaws.{Accepted, skipped_is, after_length}
@@ -23,8 +22,6 @@ use Rattle.debits.specs.TakingLaws.{taken_some}
 use Rattle.verdicts.specs.LineTests.{test_line, passes}
 use Rattle.verdicts.specs.LineTestsLaws.{fails_each}
 use Rattle.verdicts.specs.Verdict.{verdict_number}
-use Rattle.verdicts.specs.declared.line_tests.LineTest.{LineTest}
-use Rattle.verdicts.specs.declared.line_tests.LineTest.TheVariants.{Fails, Passes}
 use Rattle.verdicts.specs.declared.verdict.Verdict.{Verdict}
 use Rattle.verdicts.specs.declared.verdict.Verdict.TheVariants.{Credits, WrongType, FieldOutOfForm, OtherActor, UnknownVehicle, PlateOutOfForm, RepeatedLine, NotCovered, NoDebit, UnknownStation}
 use Rattle.judging.specs.Judging.{Judging, is_credit_file, repeated_at, cover_on, credit_of, debit_verdict, passed_verdict, taken_on, known_on, test_on, reaches_at, marks_before, verdict_at}
@@ -39,13 +36,13 @@ record Apart (v : Verdict) : Type 0 where
 apart_numbered : (v : Verdict) → 0 < verdict_number v → (verdict_number v ≡ 8 → ⊥) → Apart v
 apart_numbered v h l = record { none = refusal_none v h; other = λ e. l (ap verdict_number e) }
 
-apart_debit : (repeated : Bool) (cover : Cover) → Apart (debit_verdict repeated cover)
+apart_debit : (repeated : Bool) (cover : Option Place) → Apart (debit_verdict repeated cover)
 apart_debit true cover = apart_numbered RepeatedLine (omega arith) (omega arith)
-apart_debit false (At place) = record { none = refl; other = λ e. let z : ◌≡◌ {A = ℕ} 0 8 = ap verdict_number e in absurd (omega arith) }
-apart_debit false Nothing = apart_numbered NotCovered (omega arith) (omega arith)
+apart_debit false (Some place) = record { none = refl; other = λ e. let z : ◌≡◌ {A = ℕ} 0 8 = ap verdict_number e in absurd (omega arith) }
+apart_debit false None = apart_numbered NotCovered (omega arith) (omega arith)
 
 -- what L1 to L5 and L9 refuse
-apart_test : (side : Side) (sender : List ℕ) (known : Bool) (line : List ℕ) (v : Verdict) → test_line side sender known line ≡ Fails v → Apart v
+apart_test : (side : Side) (sender : List ℕ) (known : Bool) (line : List ℕ) (v : Verdict) → test_line side sender known line ≡ Err v → Apart v
 apart_test side sender known line v e =
     fails_each Apart (apart_numbered WrongType (omega arith) (omega arith)) (apart_numbered FieldOutOfForm (omega arith) (omega arith)) (apart_numbered OtherActor (omega arith) (omega arith))
     (apart_numbered UnknownVehicle (omega arith) (omega arith)) (apart_numbered PlateOutOfForm (omega arith) (omega arith)) side sender known line v
@@ -56,15 +53,15 @@ credit_only Credit e = refl
 credit_only Debit e = absurd (false≢true e)
 credit_only Neither e = absurd (false≢true e)
 
-passes_only : (t : LineTest) → passes t ≡ true → t ≡ Passes
-passes_only (Fails v) e = absurd (false≢true e)
-passes_only Passes e = refl
+passes_only : (t : Result (Unit {0}) Verdict) → passes t ≡ true → t ≡ Ok tt
+passes_only (Err v) e = absurd (false≢true e)
+passes_only (Ok tt) e = refl
 
 module _ (j : Judging) (marks : List ℕ) (k : ℕ) where
   abbrev line : List ℕ
   line = line_at j.tif k
 
-  abbrev test : LineTest
+  abbrev test : Result (Unit {0}) Verdict
   test = test_on j k
 
   abbrev before : List ℕ
@@ -73,12 +70,12 @@ module _ (j : Judging) (marks : List ℕ) (k : ℕ) where
   abbrev took : Option ℕ
   took = taken_at j.debits (line_at j.tif) (reaches_at j) marks k
 
-  by_side : test ≡ Passes → {side : Side} → j.side ≡ side → verdict_at j marks k ≡ passed_verdict side (repeated_at j.tif k) (cover_on j.book line) (taken_on j before k)
+  by_side : test ≡ Ok tt → {side : Side} → j.side ≡ side → verdict_at j marks k ≡ passed_verdict side (repeated_at j.tif k) (cover_on j.book line) (taken_on j before k)
   unfolding verdict_at
   by_side e s = passes_verdict j before k e ∙ ap (λ (x : Side). passed_verdict x (repeated_at j.tif k) (cover_on j.book line) (taken_on j before k)) s
 
   -- a line reaches L8 where its file is CRE and it passes L1 to L5 and L9
-  pub reaches_is : reaches_at j k ≡ true → (j.side ≡ Credit) × (test ≡ Passes)
+  pub reaches_is : reaches_at j k ≡ true → (j.side ≡ Credit) × (test ≡ Ok tt)
   unfolding reaches_at
   reaches_is e = (credit_only j.side (and_left (is_credit_file j.side) (passes test) e), passes_only test (and_right (is_credit_file j.side) (passes test) e))
 
@@ -94,7 +91,7 @@ module _ (j : Judging) (marks : List ℕ) (k : ℕ) where
   unfolding verdict_at
   not_reaching r = go test refl
     where
-      passed : test ≡ Passes → (side : Side) → j.side ≡ side → Apart (verdict_at j marks k)
+      passed : test ≡ Ok tt → (side : Side) → j.side ≡ side → Apart (verdict_at j marks k)
       passed e Credit s = absurd (true≢false (sym (passes_reaches j before k e ∙ ap is_credit_file s) ∙ r))
       passed e Debit s =
           rw (by_side e s ∙ passed_debit (repeated_at j.tif k) (cover_on j.book line) (taken_on j before k))
@@ -103,9 +100,9 @@ module _ (j : Judging) (marks : List ℕ) (k : ℕ) where
           rw (by_side e s ∙ passed_neither (repeated_at j.tif k) (cover_on j.book line) (taken_on j before k))
           (apart_numbered WrongType (omega arith) (omega arith))
 
-      go : (t : LineTest) → test ≡ t → Apart (verdict_at j marks k)
-      go (Fails v) e = rw (sym (fails_verdict j before k v e)) (apart_test j.side j.sender (known_on j k) line v e)
-      go Passes e = passed e j.side refl
+      go : (t : Result (Unit {0}) Verdict) → test ≡ t → Apart (verdict_at j marks k)
+      go (Err v) e = rw (sym (fails_verdict j before k v e)) (apart_test j.side j.sender (known_on j k) line v e)
+      go (Ok tt) e = passed e j.side refl
 
   -- ---- so the verdict says whether a credit was accepted, and with which debit, or refused
   abbrev accepted : Bool

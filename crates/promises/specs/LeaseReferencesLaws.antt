@@ -1,6 +1,6 @@
 -- Of the book a judged line takes only its cover: books that differ only in lease references give every line the same verdict and word, and the same marks.
 -- Assumes nothing.
-use Rattle.std.specs.Prelude.{◌≡◌, ℕ, ◌+◌, ◌≤◌, ◌<◌, set}
+use Rattle.std.specs.Prelude.{◌≡◌, ℕ, ◌+◌, ◌≤◌, ◌<◌, set, Option}
 use Rattle.std.proofs.Math.Path.{refl, ap}
 use Rattle.std.proofs.Common.{sym, ◌∙◌, length-set, get_or-set_other}
 use mathlib.Core.List.{List, ◌++◌}
@@ -11,7 +11,7 @@ use Rattle.tif.specs.Body.{line_at}
 use Rattle.book.specs.Layout.{width, agreements, body_place}
 use Rattle.cover.specs.Lease.{SameButLeases}
 use Rattle.cover.proofs.LeaseCoverLaws.{same_cover}
-use Rattle.cover.specs.declared.cover.Cover.{Cover}
+use Rattle.cover.specs.declared.cover.Place.{Place}
 use Rattle.verdicts.specs.LineTests.{line_rows}
 use Rattle.verdicts.specs.Verdict.{word_of}
 use Rattle.judging.specs.Judging.{Judging, judging, repeated_at, cover_on, file_rows, accepted_by, taken_on, known_on, verdict_on, reaches_at, marks_before, verdict_at, word_at, words_of}
@@ -37,7 +37,7 @@ module _ (j : Judging) (b : List ℕ) (s : SameButLeases width j.book b) where
   same_verdict_on marks k =
       let line = line_at j.tif k in
       ap
-      (λ (cover : Cover). first_of (line_rows j.side j.sender (known_on j k) line ++ file_rows j.side (repeated_at j.tif k) cover (taken_on j marks k)) (accepted_by j.side cover (taken_on j marks k)))
+      (λ (cover : Option Place). first_of (line_rows j.side j.sender (known_on j k) line ++ file_rows j.side (repeated_at j.tif k) cover (taken_on j marks k)) (accepted_by j.side cover (taken_on j marks k)))
       (same_cover_on line)
 
   module _ (marks : List ℕ) where

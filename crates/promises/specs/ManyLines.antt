@@ -1,5 +1,5 @@
 -- n = 9,999 is judged; 10,000 gives 05: shown on DEB files of n equal lines, for every n. Assumes nothing.
-use Rattle.std.specs.Prelude.{◌≡◌, ℕ, zero, suc, ◌*◌, ◌≤◌, ◌<◌, length, eqb}
+use Rattle.std.specs.Prelude.{◌≡◌, ℕ, zero, suc, ◌*◌, ◌≤◌, ◌<◌, length, eqb, Ok, Err, Some}
 use Rattle.std.proofs.Math.Path.{refl, sym, ap}
 use Rattle.std.proofs.Common.{◌∙◌, arith}
 use Rattle.std.proofs.Math.Bool.{true, not}
@@ -14,7 +14,6 @@ use Rattle.lines.specs.Number.{value_below, all_digits, number_of, digits_of}
 use Rattle.lines.specs.Rows.{file_length, one_feed, header_of, line_of, footer_of, framed_lines}
 use Rattle.lines.specs.Same.{differ_at, first_difference, same}
 use Rattle.lines.specs.Tests.{eq_not}
-use Rattle.lines.specs.declared.rows.Lines.{Lines}
 use Rattle.moment.specs.Calendar.{is_leap, days_in}
 use Rattle.moment.specs.Moment.{date_fault, time_fault, check_moment, is_moment}
 use Rattle.passage.specs.Passage.{gross_amount}
@@ -27,7 +26,7 @@ use Rattle.tif.specs.Header.{names_file, header_formed, header_sound, records_of
 use Rattle.tif.specs.Received.{is_received}
 use Rattle.tif.specs.Side.{side_of}
 use Rattle.tif.specs.Worked.{ten_thousand}
-use Rattle.tif.specs.declared.acceptance.Acceptance.{Acceptance}
+use Rattle.tif.specs.declared.acceptance.FileFault.{FileFault}
 use Rattle.tif.specs.declared.side.Side.TheVariants.{Debit}
 use Rattle.tic.specs.DigitLaws.{digits_all, number_digits}
 use Rattle.tic.specs.FileLaws.{joined_length, joined_header, joined_line, joined_footer, joined_framed}
@@ -111,7 +110,7 @@ module _ (n : ℕ) where
   body_total_lem = sum_equal (amount_at (equal_lines n)) n (λ k h. ap (λ (line : List ℕ). number_of (gross_amount line)) (line_is k h) ∙ equal_amount k)
 
   module _ (few : n ≤ 9999) where
-    framed : framed_lines tif_layout (equal_lines n) ≡ Lines.Of n
+    framed : framed_lines tif_layout (equal_lines n) ≡ Some n
     unfolding equal_lines
     framed =
         joined_framed tif_layout (header_with 1 Debit n) equal_line (footer_with (n * 5000)) n (header_long 1 Debit n) (λ k h. equal_long k) (footer_long (n * 5000))
@@ -127,18 +126,18 @@ module _ (n : ℕ) where
     total_states = ap total_of footer_is ∙ footer_states (n * 5000) (omega arith) ∙ sym body_total_lem
 
     -- up to 9,999 lines the file is judged, with its n lines and their sum
-    pub many_judged : acceptance_of worked_name [] (equal_lines n) ≡ Acceptance.Judged (record { lines = n; total = gross_of (n * 5000) })
+    pub many_judged : acceptance_of worked_name [] (equal_lines n) ≡ Ok (record { lines = n; total = gross_of (n * 5000) })
     unfolding is_received some_below
     many_judged =
-        file_by worked_name [] (equal_lines n) (Lines.Of n) framed
+        file_by worked_name [] (equal_lines n) (Some n) framed
         ∙ sym (picked (past refl (past refl (past (ap not (ap (header_sound worked_name) header_is ∙ header_tests n)) (past (ap not body_sound_lem)
         (past (ap not (ap footer_sound footer_is ∙ footer_tests (n * 5000))) (past (ap not counts) (past (eq_not _ _ total_states) none))))))))
-        ∙ ap (λ (total : ℕ). Acceptance.Judged (record { lines = n; total = gross_of total })) body_total_lem
+        ∙ ap (λ (total : ℕ). Ok (record { lines = n; total = gross_of total })) body_total_lem
 
 -- ---- 01's two figures
-pub most_judged : acceptance_of worked_name [] (equal_lines 9999) ≡ Acceptance.Judged (record { lines = 9999; total = gross_of 49995000 })
+pub most_judged : acceptance_of worked_name [] (equal_lines 9999) ≡ Ok (record { lines = 9999; total = gross_of 49995000 })
 most_judged = many_judged 9999 (omega arith)
 
-pub too_many : acceptance_of worked_name [] (equal_lines 10000) ≡ Acceptance.OutOfForm
+pub too_many : acceptance_of worked_name [] (equal_lines 10000) ≡ Err FileFault.OutOfForm
 unfolding is_received some_below
 too_many = ten_thousand worked_name [] (equal_lines 10000) refl (equal_length 10000)

@@ -1,9 +1,9 @@
 -- No refusal is ever dropped. However many lines of a file are refused, up to all 9,999, each has its line in the TIC, or the call is E7 and nothing was written.
 -- Assumes nothing.
-use Rattle.std.specs.Prelude.{◌≡◌, refl, Bool, true, false, List, ℕ, ◌+◌, ◌*◌, ◌≤◌, ◌<◌, length, ltb}
+use Rattle.std.specs.Prelude.{◌≡◌, refl, Bool, true, false, List, ℕ, ◌+◌, ◌*◌, ◌≤◌, ◌<◌, length, ltb, Ok, Err}
 use Rattle.std.proofs.Common.{◌∙◌, arith, le-ltb}
 use Rattle.lines.specs.BoolLaws.{or_false}
-use Rattle.tif.specs.declared.acceptance.Acceptance.{Acceptance}
+use Rattle.tif.specs.Acceptance.{Acceptance}
 use Rattle.verdicts.specs.declared.record.Record.{Record}
 use Rattle.judging.specs.Sums.{count_of}
 use Rattle.judging.specs.SumsLaws.{count_within}
@@ -50,11 +50,8 @@ lines_at_most : (c : Call) → check_of c ≡ CallCheck.Sound → lines_of c ≤
 lines_at_most c sound = go (file_of c) refl
   where
     go : (a : Acceptance) → file_of c ≡ a → lines_to_judge (file_of c) ≤ 9999
-    go (Acceptance.Judged w) e = rw e (lines_few c (check_shows c sound) w e)
-    go Acceptance.AlreadyReceived e = rw e (omega arith)
-    go Acceptance.OutOfForm e = rw e (omega arith)
-    go Acceptance.CountsDiffer e = rw e (omega arith)
-    go Acceptance.TotalDiffers e = rw e (omega arith)
+    go (Ok w) e = rw e (lines_few c (check_shows c sound) w e)
+    go (Err f) e = rw e (omega arith)
 
 -- an output of 324 + 812 · 9,999 bytes and 9,999 records are enough for every file
 pub always_room : (c : Call) → check_of c ≡ CallCheck.Sound → 8119512 ≤ length c.out → 9999 ≤ c.room → answer_of c ≡ Answered (summary_of c)

@@ -1,7 +1,7 @@
 -- An empty station table changes nothing. Where none is lent a call is checked by E1 to E6 alone, its card has eight codes, and each of its lines is judged by
 -- L1 to L8 alone: in the lists of tests the row of E8 and the row of L9 may be left out. All else that a call gives is defined by these with no word of a table.
 -- Assumes nothing.
-use Rattle.std.specs.Prelude.{◌≡◌, true, false, ◌&&◌, List, [], ◌++◌, ℕ, ◌+◌, ◌<◌, length, take, drop, eqb}
+use Rattle.std.specs.Prelude.{◌≡◌, true, false, ◌&&◌, List, [], ◌++◌, ℕ, ◌+◌, ◌<◌, length, take, drop, eqb, Ok}
 use Rattle.lines.specs.Below.{some_below}
 use Rattle.lines.specs.Class.{all_of}
 use Rattle.lines.specs.FirstOf.{Row, first_of}
@@ -11,7 +11,6 @@ use Rattle.chains.specs.Index.{member_of}
 use Rattle.tst.specs.Form.{is_lent, table_sound}
 use Rattle.tst.specs.Stations.{is_known_station}
 use Rattle.verdicts.specs.LineTests.{line_rows, failing, test_line, passes}
-use Rattle.verdicts.specs.declared.line_tests.LineTest.TheVariants.{Passes}
 use Rattle.verdicts.specs.Verdict.{verdict_number}
 use Rattle.judging.specs.Judging.{is_credit_file, cover_on, accepted_by, taken_on, known_on, all_rows, verdict_on, reaches_at}
 use Rattle.judging.proofs.WordLaws.{unlent_number}
@@ -48,7 +47,7 @@ module _ (c : Call) (none : c.tst ≡ []) where
   none_by_L9 marks k = unlent_number (judging_of c) marks k (rw none)
 
   -- and the credits that come to L8 are those that pass L1 to L5
-  pub reaching_as_before : (k : ℕ) → reaches_at (judging_of c) k ≡ (is_credit_file (judging_of c).side && passes (first_of (left_out 3 (failing (line_rows (judging_of c).side (judging_of c).sender (known_on (judging_of c) k) (line_at c.tif k)))) Passes))
+  pub reaching_as_before : (k : ℕ) → reaches_at (judging_of c) k ≡ (is_credit_file (judging_of c).side && passes (first_of (left_out 3 (failing (line_rows (judging_of c).side (judging_of c).sender (known_on (judging_of c) k) (line_at c.tif k)))) (Ok tt)))
   unfolding reaches_at test_line first_of is_lent is_known_station
   reaching_as_before k = rw none
 

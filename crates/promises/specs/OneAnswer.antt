@@ -1,7 +1,7 @@
 -- Two results that a contract allows are equal: for the same input the same answer, and the same contents afterwards of everything lent for writing.
 -- One theorem for each form of contract; docs/ONE_ANSWER.md names the theorem of each public function. None asks for what a function requires.
 -- What is lent for reading only stays as it is, by its type. Assumes nothing.
-use Rattle.std.specs.Prelude.{◌≡◌, List, ℕ, Option, None}
+use Rattle.std.specs.Prelude.{◌≡◌, List, ℕ, Result, Option, None}
 use Rattle.std.proofs.Common.{sym, ap, ◌∙◌}
 use Rattle.std.specs.Borrow.{Bor}
 use Rattle.lines.specs.Number.{BigEndian}
@@ -14,7 +14,7 @@ use Rattle.verdicts.specs.declared.verdict.Verdict.{Verdict}
 use Rattle.judging.specs.Judging.{Judging}
 use Rattle.judging.specs.Steps.{Judged as LineJudged, AllJudged}
 use Rattle.tic.specs.Rewriting.{Rewrites}
-use Rattle.tic.specs.declared.rewriting.Rewritten.{Rewritten}
+use Rattle.tic.specs.declared.rewriting.RewriteFault.{RewriteFault}
 use Rattle.judge.specs.Call.{Call, WordsJudged, Judged}
 use Rattle.answers.specs.declared.answer.Answer.{Answer}
 
@@ -65,7 +65,7 @@ pub one_judging : {j : Judging} {n : ℕ} {marks : List ℕ} {marks' marks₂' w
 one_judging a b = (one_value a.marked b.marked, one_value a.worded b.worded)
 
 -- a TIC written again: T1 to T5, E7 or its length, and the whole output
-pub one_rewriting : {tic out : List ℕ} {r r₂ : Rewritten} {out' out₂' : List ℕ}
+pub one_rewriting : {tic out : List ℕ} {r r₂ : Result ℕ RewriteFault} {out' out₂' : List ℕ}
     → Rewrites tic out r out' → Rewrites tic out r₂ out₂' → (r ≡ r₂) × (out' ≡ out₂')
 one_rewriting a b = (one_value a.answer b.answer, one_value a.output b.output)
 

@@ -1,6 +1,6 @@
 -- The worked lines that 01 marks, in a single table, computed: on the left what the definition says, on the right 01's own answer.
 -- Assumes nothing.
-use Rattle.std.specs.Prelude.{◌≡◌, refl, Bool, true, false, List, [], ◌∷◌, ℕ, replicate}
+use Rattle.std.specs.Prelude.{◌≡◌, refl, Bool, true, false, List, [], ◌∷◌, ℕ, replicate, Option, Some, None}
 use Rattle.lines.specs.Below.{all_below, some_below, first_below, sum_below}
 use Rattle.lines.specs.Class.{is_digit, is_capital, is_of, byte_is, all_bytes, all_of}
 use Rattle.lines.specs.FirstOf.{first_of}
@@ -17,8 +17,7 @@ use Rattle.tif.specs.Worked.{name_of}
 use Rattle.book.specs.Layout.{width, agreements, pan_of, body_head, periods_at, period_of, body_place}
 use Rattle.cover.specs.Cover.{in_time, leased_to, period_covers, covers_at, covering_period, has_cover, pan_is, agreement_of, covering_agreement, cover_in, cover_of}
 use Rattle.cover.specs.Worked.{book, pan, plate, nation}
-use Rattle.cover.specs.declared.cover.Cover.{Cover}
-use Rattle.cover.specs.declared.cover.Cover.TheVariants.{At, Nothing}
+use Rattle.cover.specs.declared.cover.Place.{Place}
 use Rattle.debits.specs.Taking.{agrees, unmarked, free_for, place_taken, taken}
 use Rattle.debits.specs.Counting.{one_if, count_below}
 use Rattle.debits.specs.Credits.{marks_after, taken_at, credit_accepted, credit_refused}
@@ -30,7 +29,7 @@ use Rattle.tic_text.specs.Worked.{worked_receiver, worked_stem, worked_moment, w
 -- an answer: yes or no, what covers a passage, how many of some credits are accepted and how many are L8, or a text
 pub data Answer : Type 0 where
   Says : Bool → Answer
-  Covers : Cover → Answer
+  Covers : Option Place → Answer
   AcceptedAndL8 : List ℕ → Answer
   Reads : List ℕ → Answer
 
@@ -71,10 +70,10 @@ by_plate moment = Covers (cover_of width book (replicate 19 32) (digits_of 14 mo
 
 -- the first period of the first agreement
 abbrev covered : Answer
-covered = Covers (At (record { agreement = 1; period = 1 }))
+covered = Covers (Some (record { agreement = 1; period = 1 }))
 
 abbrev not_covered : Answer
-not_covered = Covers Nothing
+not_covered = Covers None
 
 -- whether a byte is in the plate set: C4 is 196, C5 is 197
 abbrev in_plate_set : ℕ → Answer

@@ -1,5 +1,5 @@
 -- Three CRE files on two equal debits, computed: each file has one credit that agrees with both. Assumes nothing.
-use Rattle.std.specs.Prelude.{◌≡◌, refl, List, [], ◌∷◌, ◌++◌, ℕ, replicate}
+use Rattle.std.specs.Prelude.{◌≡◌, refl, List, [], ◌∷◌, ◌++◌, ℕ, replicate, Ok, Some}
 use Rattle.std.proofs.Common.{◌∙◌, arith}
 use Rattle.lines.specs.Below.{all_below, some_below, first_below, table_below, join_below, sum_below}
 use Rattle.lines.specs.Class.{is_digit, is_capital, is_of, byte_is, all_bytes, all_of, place_of, padded_with}
@@ -8,11 +8,11 @@ use Rattle.lines.specs.Number.{value_below, all_digits, number_of, big_endian, d
 use Rattle.lines.specs.Rows.{header_of, line_of, footer_of, count_fits}
 use Rattle.lines.specs.Same.{differ_at, first_difference, same}
 use Rattle.lines.specs.Spans.{span_agrees, agree_across, agree_on}
-use Rattle.lines.specs.declared.rows.Lines.{Lines}
 use Rattle.moment.specs.Calendar.{is_leap, days_in}
 use Rattle.moment.specs.Moment.{date_fault, time_fault, check_date, check_moment, is_date, is_moment}
 use Rattle.plate.specs.Plate.{padded_plate, is_filled, two_of, nation_class, plate_on_line}
 use Rattle.plate.specs.Set.{is_small, is_marked_letter, is_plate_byte}
+use Rattle.tif.specs.Acceptance.{Acceptance}
 use Rattle.tif.specs.Body.{gross_of, line_sound, line_sound_at, body_sound, amount_at, body_total}
 use Rattle.tif.specs.Every.{every}
 use Rattle.tif.specs.Footer.{footer_sound}
@@ -21,7 +21,6 @@ use Rattle.tif.specs.Name.{is_actor, is_sequence, is_file_stem, is_name}
 use Rattle.tif.specs.Received.{names_whole, is_received}
 use Rattle.tif.specs.Side.{side_of}
 use Rattle.tif.specs.Worked.{name_of}
-use Rattle.tif.specs.declared.acceptance.Acceptance.{Acceptance}
 use Rattle.tif.specs.declared.acceptance.Whole.{Whole}
 use Rattle.tif.specs.declared.side.Side.TheVariants.{Credit}
 use Rattle.book.specs.Layout.{agreements, body_place}
@@ -129,14 +128,14 @@ one_line = record { lines = 1; total = gross_of 5000 }
 
 -- neither 02 nor 05, 03, 04
 abbrev after_frame : ℕ → Acceptance
-after_frame sequence = acceptance_with (Lines.Of 1) (name_of (digits_of 4 sequence)) [] (tif_with sequence Credit credit_rows 5000)
+after_frame sequence = acceptance_with (Some 1) (name_of (digits_of 4 sequence)) [] (tif_with sequence Credit credit_rows 5000)
 
-counted : (after_frame 1 ≡ Acceptance.Judged one_line) × (after_frame 2 ≡ Acceptance.Judged one_line) × (after_frame 3 ≡ Acceptance.Judged one_line)
+counted : (after_frame 1 ≡ Ok one_line) × (after_frame 2 ≡ Ok one_line) × (after_frame 3 ≡ Ok one_line)
 unfolding first_of is_received some_below header_sound names_file header_formed every same first_difference differ_at first_below side_of is_moment check_moment date_fault time_fault days_in is_leap all_of all_bytes all_below byte_is is_of is_digit all_digits number_of value_below body_sound line_sound_at line_sound footer_sound counts_agree body_total sum_below amount_at header_of line_of footer_of tif_with header_with footer_with row_of line_with join_below joined zeros blanks digits_of
 counted = (refl, refl, refl)
 
-judged : (sequence : ℕ) (marks : List ℕ) → after_frame sequence ≡ Acceptance.Judged one_line → file_of (credit_call sequence marks) ≡ Acceptance.Judged one_line
-judged sequence marks e = file_by (name_of (digits_of 4 sequence)) [] (tif_with sequence Credit credit_rows 5000) (Lines.Of 1) (tif_framed sequence Credit credit_rows 5000 whole (omega arith)) ∙ e
+judged : (sequence : ℕ) (marks : List ℕ) → after_frame sequence ≡ Ok one_line → file_of (credit_call sequence marks) ≡ Ok one_line
+judged sequence marks e = file_by (name_of (digits_of 4 sequence)) [] (tif_with sequence Credit credit_rows 5000) (Some 1) (tif_framed sequence Credit credit_rows 5000 whole (omega arith)) ∙ e
 
 -- the first file takes the first debit, the second the second; the third finds none
 verdicts :

@@ -1,5 +1,5 @@
 -- 01's worked file, computed: acceptance 01, DEB, 3 lines, 2 accepted, 1 refused, 17850 in all, 5300 accepted, 12550 refused; and its TIC. Assumes nothing.
-use Rattle.std.specs.Prelude.{◌≡◌, false, List, [], ◌∷◌, ◌++◌, ℕ, ◌≤◌, length, take, drop, ltb}
+use Rattle.std.specs.Prelude.{◌≡◌, false, List, [], ◌∷◌, ◌++◌, ℕ, ◌≤◌, length, take, drop, ltb, Ok, Some}
 use Rattle.std.proofs.Math.Path.{refl}
 use Rattle.std.proofs.Common.{ap, ◌∙◌, arith}
 use Rattle.lines.specs.Below.{all_below, some_below, first_below, table_below, join_below, sum_below}
@@ -12,7 +12,6 @@ use Rattle.lines.specs.Same.{differ_at, first_difference, same, before}
 use Rattle.lines.specs.Spans.{span_agrees, agree_across, agree_on}
 use Rattle.lines.specs.Splice.{splice}
 use Rattle.lines.specs.Tests.{tests}
-use Rattle.lines.specs.declared.rows.Lines.{Lines}
 use Rattle.moment.specs.Calendar.{is_leap, days_in}
 use Rattle.moment.specs.Moment.{date_fault, time_fault, check_date, check_moment, is_date, is_moment}
 use Rattle.plate.specs.Plate.{all_plate_bytes, padded_plate, is_filled, two_of, nation_class, plate_on_line, plate_in_book}
@@ -24,7 +23,6 @@ use Rattle.tif.specs.Header.{names_file, header_formed, header_sound, counts_agr
 use Rattle.tif.specs.Name.{is_actor, is_sequence, is_file_stem, is_name}
 use Rattle.tif.specs.Received.{names_whole, is_received}
 use Rattle.tif.specs.Side.{side_of}
-use Rattle.tif.specs.declared.acceptance.Acceptance.{Acceptance}
 use Rattle.tif.specs.declared.acceptance.Whole.{Whole}
 use Rattle.tif.specs.declared.side.Side.TheVariants.{Debit}
 use Rattle.book.specs.Layout.{agreements, pan_of, offset_of, body_head, periods_at, period_of, body_end, body_place}
@@ -115,14 +113,14 @@ whole = WholeRows.cons refl (line_feed first_passing refl refl) (WholeRows.cons 
 abbrev three_lines : Whole
 three_lines = record { lines = 3; total = gross_of 17850 }
 
-counted : acceptance_with (Lines.Of 3) worked_name [] worked_tif ≡ Acceptance.Judged three_lines
+counted : acceptance_with (Some 3) worked_name [] worked_tif ≡ Ok three_lines
 unfolding first_of is_received some_below header_sound names_file header_formed every same first_difference differ_at first_below side_of is_moment check_moment date_fault time_fault days_in is_leap all_of all_bytes all_below byte_is is_of is_digit all_digits number_of value_below body_sound line_sound_at line_sound footer_sound counts_agree body_total sum_below amount_at header_of line_of footer_of tif_with header_with footer_with row_of line_with join_below joined zeros blanks digits_of
 counted = refl
 
 abbrev worked_words : List ℕ
 worked_words = word_of covered ∷ word_of NotCovered ∷ word_of covered ∷ []
 
-told : summary_for (Acceptance.Judged three_lines) worked_tif worked_words ≡ worked_summary
+told : summary_for (Ok three_lines) worked_tif worked_words ≡ worked_summary
 unfolding judged_answer count_of total_of amount_of one_at is_counted is_accepted sum_below amount_at number_of value_below side_of first_of same first_difference differ_at first_below some_below line_of tif_with header_with footer_with row_of line_with join_below joined zeros blanks digits_of
 told = refl
 
@@ -145,8 +143,8 @@ module _ (room : ℕ) (out : List ℕ) where
   unfolding check_call check_lent is_lent table_sound first_of is_name is_file_stem every is_actor is_sequence all_digits number_of value_below all_of all_bytes all_below byte_is is_of is_digit is_capital same first_difference differ_at first_below some_below is_date check_date date_fault days_in is_leap is_moment check_moment time_fault is_card names_whole book_sound head_sound entries_sound entry_sound_at rises_at bodies_sound agreement_sound_at agreement_sound lease_sound periods_sound period_sound_at follows_at period_form end_form agreements pan_of offset_of body_head periods_at period_of body_end body_place place_of padded_with filled_with big_endian line_of before all_plate_bytes padded_plate is_filled two_of plate_in_book is_small is_marked_letter is_plate_byte debits_sound count_fits lines_sound marks_sound digits_of
   sound = refl
 
-  judged : file_of (worked_with room out) ≡ Acceptance.Judged three_lines
-  judged = file_by worked_name [] worked_tif (Lines.Of 3) (tif_framed 1 Debit worked_rows 17850 whole (omega arith)) ∙ counted
+  judged : file_of (worked_with room out) ≡ Ok three_lines
+  judged = file_by worked_name [] worked_tif (Some 3) (tif_framed 1 Debit worked_rows 17850 whole (omega arith)) ∙ counted
 
   verdicts : words_of (judging_of (worked_with room out)) [] 3 ≡ worked_words
   unfolding words_of table_below word_at verdict_at verdict_on is_lent is_known_station first_of is_lawful_type is_listed code_is fields_in_form is_from_sender is_known_fuel is_known_vehicle plates_in_form plate_on_line nation_class codes_of tariff_classes emissions fuels repeated_at repeats_at agree_on agree_across span_agrees cover_on cover_of cover_in covering_agreement agreement_of pan_is has_cover covering_period covers_at period_covers leased_to in_time taken place_taken marks_after reaches_at test_line every same first_difference differ_at before some_below first_below all_below is_moment check_moment date_fault time_fault days_in is_leap all_digits number_of value_below big_endian all_of all_bytes byte_is is_of is_digit is_capital padded_with place_of padded_plate is_filled two_of is_small is_marked_letter is_plate_byte agreements pan_of body_head periods_at period_of body_end body_place side_of line_of tif_with header_with footer_with row_of line_with join_below joined zeros blanks digits_of

@@ -1,5 +1,5 @@
 -- Calls that are worked through by computing: their TIFs are files of whole lines, and the steps of a call, each by its own value. Assumes nothing.
-use Rattle.std.specs.Prelude.{◌≡◌, refl, true, not, List, [], ◌∷◌, ◌++◌, ℕ, zero, suc, ◌-◌, ◌≤◌, ◌<◌, length, drop}
+use Rattle.std.specs.Prelude.{◌≡◌, refl, true, not, List, [], ◌∷◌, ◌++◌, ℕ, zero, suc, ◌-◌, ◌≤◌, ◌<◌, length, drop, Ok, Err, Option, Some}
 use Rattle.std.proofs.Math.Path.{ap}
 use Rattle.std.proofs.Common.{◌∙◌, not-suc-le-zero, le_of_suc-le-suc, arith}
 use Rattle.lines.specs.Below.{all_below}
@@ -8,11 +8,10 @@ use Rattle.lines.specs.FirstOf.{◌⇒◌, first_of}
 use Rattle.lines.specs.Number.{digits_of}
 use Rattle.lines.specs.Rows.{most_lines, one_feed, framed_lines}
 use Rattle.lines.specs.Splice.{splice}
-use Rattle.lines.specs.declared.rows.Lines.{Lines}
-use Rattle.tif.specs.Acceptance.{is_framed, framed_count, acceptance_rows, whole_of, acceptance_of}
+use Rattle.tif.specs.Acceptance.{Acceptance, is_framed, framed_count, acceptance_rows, whole_of, acceptance_of}
 use Rattle.tif.specs.Columns.{tif_layout}
 use Rattle.tif.specs.Received.{is_received}
-use Rattle.tif.specs.declared.acceptance.Acceptance.{Acceptance}
+use Rattle.tif.specs.declared.acceptance.FileFault.{FileFault}
 use Rattle.tif.specs.declared.acceptance.Whole.{Whole}
 use Rattle.tif.specs.declared.side.Side.{Side}
 use Rattle.tif.specs.declared.side.Side.TheVariants.{Credit, Debit, Neither}
@@ -77,7 +76,7 @@ pub footer_long : (total : ℕ) → length (footer_with total) ≡ 107
 unfolding footer_with joined zeros digits_of
 footer_long total = refl
 
-pub tif_framed : (sequence : ℕ) (side : Side) (rows : List (List ℕ)) (total : ℕ) → WholeRows rows → length rows ≤ most_lines → framed_lines tif_layout (tif_with sequence side rows total) ≡ Lines.Of (length rows)
+pub tif_framed : (sequence : ℕ) (side : Side) (rows : List (List ℕ)) (total : ℕ) → WholeRows rows → length rows ≤ most_lines → framed_lines tif_layout (tif_with sequence side rows total) ≡ Some (length rows)
 unfolding tif_with
 tif_framed sequence side rows total w few =
     joined_framed tif_layout (header_with sequence side (length rows)) (row_of rows) (footer_with total) (length rows)
@@ -85,31 +84,31 @@ tif_framed sequence side rows total w few =
     few (omega arith) (header_feed sequence side (length rows)) (λ k h. (row_whole w k h).1) (footer_feed total)
 
 -- ---- 02 to 05 of a file whose lines are counted
-abbrev pub acceptance_with : Lines → List ℕ → List ℕ → List ℕ → Acceptance
+abbrev pub acceptance_with : Option ℕ → List ℕ → List ℕ → List ℕ → Acceptance
 acceptance_with lines name names tif =
     first_of (
-    (is_received names name ⇒ Acceptance.AlreadyReceived)
-    ∷ (not (is_framed lines) ⇒ Acceptance.OutOfForm)
+    (is_received names name ⇒ Err FileFault.AlreadyReceived)
+    ∷ (not (is_framed lines) ⇒ Err FileFault.OutOfForm)
     ∷ drop 2 (acceptance_rows name names tif (framed_count lines))
-    ) (Acceptance.Judged (whole_of tif (framed_count lines)))
+    ) (Ok (whole_of tif (framed_count lines)))
 
-pub file_by : (name names tif : List ℕ) (lines : Lines) → framed_lines tif_layout tif ≡ lines → acceptance_of name names tif ≡ acceptance_with lines name names tif
+pub file_by : (name names tif : List ℕ) (lines : Option ℕ) → framed_lines tif_layout tif ≡ lines → acceptance_of name names tif ≡ acceptance_with lines name names tif
 unfolding acceptance_of
-file_by name names tif lines e = ap (λ (l : Lines). acceptance_with l name names tif) e
+file_by name names tif lines e = ap (λ (l : Option ℕ). acceptance_with l name names tif) e
 
 -- ---- the steps of a call that is sound, of a file that is judged, with these words
 module _ (c : Call) (w : Whole) (words : List ℕ)
-    (checked : check_of c ≡ CallCheck.Sound) (filed : file_of c ≡ Acceptance.Judged w) (worded : words_of (judging_of c) c.marks w.lines ≡ words) where
+    (checked : check_of c ≡ CallCheck.Sound) (filed : file_of c ≡ Ok w) (worded : words_of (judging_of c) c.marks w.lines ≡ words) where
   words_are : words_judged c ≡ words
   unfolding words_judged
   words_are = rw filed worded
 
   abbrev pub told_of : Summary
-  told_of = summary_for (Acceptance.Judged w) c.tif words
+  told_of = summary_for (Ok w) c.tif words
 
   told_is : summary_of c ≡ told_of
   unfolding summary_of
-  told_is = ap (λ (x : Acceptance). summary_for x c.tif (words_judged c)) filed ∙ ap (summary_for (Acceptance.Judged w) c.tif) words_are
+  told_is = ap (λ (x : Acceptance). summary_for x c.tif (words_judged c)) filed ∙ ap (summary_for (Ok w) c.tif) words_are
 
   pub answer_is : answer_of c ≡ answer_sound told_of c.room (length c.out)
   unfolding answer_of

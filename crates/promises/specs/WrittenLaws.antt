@@ -1,5 +1,5 @@
 -- The TIC of a call that E1 to E6 and E8 let pass is the text of sound values. Assumes nothing.
-use Rattle.std.specs.Prelude.{◌≡◌, Bool, ◌&&◌, ◌||◌, cond, List, [], ◌∷◌, ◌++◌, get_or, take, drop, leb, ltb}
+use Rattle.std.specs.Prelude.{◌≡◌, Bool, ◌&&◌, ◌||◌, cond, List, [], ◌∷◌, ◌++◌, get_or, take, drop, leb, ltb, Ok, Err}
 use Rattle.std.proofs.Math.Path.{refl, ap}
 use Rattle.std.proofs.Common.{sym, ◌∙◌, get_or-take}
 use Rattle.std.proofs.Math.Bool.{true, false, not}
@@ -21,13 +21,14 @@ use Rattle.lines.specs.Number.{all_digits, number_of}
 use Rattle.lines.specs.Rows.{most_lines}
 use Rattle.lines.specs.declared.class.Class.TheVariants.{DigitOrCapital}
 use Rattle.passage.specs.Passage.{gross_amount}
+use Rattle.tif.specs.Acceptance.{Acceptance}
 use Rattle.tif.specs.Body.{line_at, amount_at, body_total}
 use Rattle.tif.specs.Every.{every}
 use Rattle.tif.specs.Judged.{SoundLine, JudgedFile}
 use Rattle.tif.specs.NameLaws.{name_shows}
 use Rattle.tif.specs.PartLaws.{part_part}
 use Rattle.tif.specs.Side.{side_of, is_sided}
-use Rattle.tif.specs.declared.acceptance.Acceptance.{Acceptance}
+use Rattle.tif.specs.declared.acceptance.FileFault.{FileFault}
 use Rattle.tif.specs.declared.acceptance.Whole.{Whole}
 use Rattle.tif.specs.declared.side.Side.{Side}
 use Rattle.tic.specs.FeedLaws.{feed_free}
@@ -138,7 +139,7 @@ pub words_count : (c : Call) → length (words_judged c) ≡ lines_of c
 unfolding words_judged
 words_count c = words_length (judging_of c) c.marks (lines_of c)
 
-pub words_long : (c : Call) (w : Whole) → file_of c ≡ Acceptance.Judged w → length (words_judged c) ≡ w.lines
+pub words_long : (c : Call) (w : Whole) → file_of c ≡ Ok w → length (words_judged c) ≡ w.lines
 words_long c w file = words_count c ∙ ap lines_to_judge file
 
 -- ---- the word of a line has the number of its verdict
@@ -147,7 +148,7 @@ unfolding words_judged words_of word_at
 number_is c k h = ap word_number (table_at (word_at (judging_of c) c.marks) (lines_of c) k 0 h) ∙ word_number_lem (verdict_at (judging_of c) c.marks k)
 
 -- ---- a file that is judged line by line
-module _ (c : Call) (s : CallSound c) (w : Whole) (file : file_of c ≡ Acceptance.Judged w) where
+module _ (c : Call) (s : CallSound c) (w : Whole) (file : file_of c ≡ Ok w) where
   abbrev words : List ℕ
   words = words_judged c
 
@@ -252,11 +253,11 @@ written_sound c sound = go (file_of c) refl
     s = check_shows c sound
 
     go : (a : Acceptance) → file_of c ≡ a → Sound (values_of_tic c)
-    go (Acceptance.Judged w) e = judged_sound c s w e
-    go Acceptance.AlreadyReceived e = whole_sound c s 2 (omega arith) (omega arith) (ap lines_to_judge e) (λ y. ap (λ (a : Acceptance). answer_code (file_answer a y)) e)
-    go Acceptance.CountsDiffer e = whole_sound c s 3 (omega arith) (omega arith) (ap lines_to_judge e) (λ y. ap (λ (a : Acceptance). answer_code (file_answer a y)) e)
-    go Acceptance.TotalDiffers e = whole_sound c s 4 (omega arith) (omega arith) (ap lines_to_judge e) (λ y. ap (λ (a : Acceptance). answer_code (file_answer a y)) e)
-    go Acceptance.OutOfForm e = whole_sound c s 5 (omega arith) (omega arith) (ap lines_to_judge e) (λ y. ap (λ (a : Acceptance). answer_code (file_answer a y)) e)
+    go (Ok w) e = judged_sound c s w e
+    go (Err FileFault.AlreadyReceived) e = whole_sound c s 2 (omega arith) (omega arith) (ap lines_to_judge e) (λ y. ap (λ (a : Acceptance). answer_code (file_answer a y)) e)
+    go (Err FileFault.CountsDiffer) e = whole_sound c s 3 (omega arith) (omega arith) (ap lines_to_judge e) (λ y. ap (λ (a : Acceptance). answer_code (file_answer a y)) e)
+    go (Err FileFault.TotalDiffers) e = whole_sound c s 4 (omega arith) (omega arith) (ap lines_to_judge e) (λ y. ap (λ (a : Acceptance). answer_code (file_answer a y)) e)
+    go (Err FileFault.OutOfForm) e = whole_sound c s 5 (omega arith) (omega arith) (ap lines_to_judge e) (λ y. ap (λ (a : Acceptance). answer_code (file_answer a y)) e)
 
 pub written_length : (c : Call) → check_of c ≡ CallCheck.Sound → length (tic_text (values_of_tic c)) ≡ (summary_of c).length
 unfolding summary_of

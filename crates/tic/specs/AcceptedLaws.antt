@@ -1,5 +1,5 @@
 -- From a TIC that reads to its values: they are sound, and its rows are their texts. Assumes nothing.
-use Rattle.std.specs.Prelude.{◌≡◌, true, ◌&&◌, take, drop}
+use Rattle.std.specs.Prelude.{◌≡◌, true, ◌&&◌, take, drop, Ok}
 use Rattle.std.proofs.Math.Path.{sym, ap}
 use Rattle.std.proofs.Common.{◌∙◌, arith, get_or-take, eq-eqb}
 use Rattle.std.proofs.Math.Bool.{Bool}
@@ -35,10 +35,9 @@ use Rattle.tic_text.specs.Text.{header_text, listed_at, listed_count, footer_tex
 use Rattle.tic_text.specs.TextLaws.{part_length}
 use Rattle.tic_text.specs.declared.values.TicHead.{TicHead}
 use Rattle.tic_text.specs.declared.values.TicSums.{TicSums}
-use Rattle.tic_text.specs.declared.values.TicReading.TheVariants.{Values}
 use Rattle.tic_text.specs.declared.values.TicValues.{TicValues}
 
-module _ (tic : List ℕ) (v : TicValues) (e : read_tic tic ≡ Values v) where
+module _ (tic : List ℕ) (v : TicValues) (e : read_tic tic ≡ Ok v) where
   r : Readable tic v.listed
   r = (read_shows tic v e).0
 

@@ -1,5 +1,5 @@
 -- A file of fixed-width rows is its rows joined, and rows of the right widths joined are such a file. Assumes nothing.
-use Rattle.std.specs.Prelude.{◌≡◌, true, ◌&&◌, length}
+use Rattle.std.specs.Prelude.{◌≡◌, true, ◌&&◌, length, Some}
 use Rattle.std.proofs.Math.Path.{sym, ap}
 use Rattle.std.proofs.Common.{◌∙◌, not-suc-le-zero, zero-mul, suc-mul, mul-div_cancel, arith, length-append, take-append-drop, drop_at}
 use mathlib.Core.List.{List, [], ◌++◌, append-nil, append_assoc}
@@ -13,7 +13,6 @@ use Rattle.lines.specs.BoolLaws.{and_true}
 use Rattle.lines.specs.Rows.{most_lines, line_place, file_length, header_of, line_of, footer_of, lines_for, one_feed, line_feed_at, feeds_stand, framed_lines}
 use Rattle.lines.specs.RowsLaws.{fits_yes, framed_yes}
 use Rattle.lines.specs.declared.rows.Layout.{Layout}
-use Rattle.lines.specs.declared.rows.Lines.TheVariants.{Of}
 use Rattle.tic_text.specs.TextLaws.{join_even}
 
 -- what is joined before k, then what stands at k, then the rest
@@ -95,10 +94,10 @@ module _ (l : Layout) (head : List ℕ) (f : ℕ → List ℕ) (foot : List ℕ)
         (all_each (line_feed_at l file) n (λ i h. ap one_feed (joined_line i h) ∙ feed_line i h)))
         (ap one_feed joined_footer ∙ feed_foot)
 
-    pub joined_framed : framed_lines l (head ++ join_below n f ++ foot) ≡ Of n
+    pub joined_framed : framed_lines l (head ++ join_below n f ++ foot) ≡ Some n
     joined_framed =
         let file : List ℕ = head ++ join_below n f ++ foot in
         framed_yes l file
         (fits_yes l (length file) (joined_length ∙ ap (file_length l) (sym counted)) (omega (arith, counted)))
         (ap (feeds_stand l file) counted ∙ feeds)
-        ∙ ap Of counted
+        ∙ ap Some counted

@@ -1,5 +1,5 @@
 -- The text of sound values reads, row by row, as those values. Assumes nothing.
-use Rattle.std.specs.Prelude.{◌≡◌, refl, Bool, true, false, cond, ◌&&◌, not, ℕ, ◌+◌, ◌^◌, ◌≤◌, ◌<◌, length, eqb, ltb}
+use Rattle.std.specs.Prelude.{◌≡◌, refl, Bool, true, false, cond, ◌&&◌, not, ℕ, ◌+◌, ◌^◌, ◌≤◌, ◌<◌, length, eqb, ltb, Ok, Result, Some}
 use Rattle.std.proofs.Common.{sym, ◌∙◌, arith, lit<, eqb-true, leb-true, ltb-false}
 use Rattle.std.proofs.Math.Path.{ap}
 use Rattle.std.proofs.lemmas.Bool.{false≢true}
@@ -10,7 +10,6 @@ use Rattle.lines.specs.BelowSame.{sum_same}
 use Rattle.lines.specs.FirstOf.{past, none, first_of}
 use Rattle.lines.specs.Number.{number_of}
 use Rattle.lines.specs.Rows.{most_lines, framed_lines, one_feed}
-use Rattle.lines.specs.declared.rows.Lines.TheVariants.{Of}
 use Rattle.moment.specs.MomentLaws.{moment_shows}
 use Rattle.passage.specs.Passage.{gross_amount}
 use Rattle.passage.specs.PassageLaws.{gross_small}
@@ -28,8 +27,8 @@ use Rattle.tic_text.specs.Text.{Tic, header_text, listed_at, listed_count, foote
 use Rattle.tic_text.specs.TextLaws.{Wide, header_length, listed_at_length, footer_length}
 use Rattle.tic_text.specs.declared.values.TicHead.{TicHead}
 use Rattle.tic_text.specs.declared.values.TicSums.{TicSums}
-use Rattle.tic_text.specs.declared.values.TicReading.{TicReading}
-use Rattle.tic_text.specs.declared.values.TicReading.TheVariants.{Values}
+use Rattle.tic_text.specs.declared.values.TicFault.{TicFault}
+use Rattle.tic_text.specs.declared.values.TicValues.{TicValues}
 
 -- an acceptance that fits is at most 05
 fits_small : (h : TicHead) → acceptance_fits h ≡ true → h.acceptance ≤ 5
@@ -108,7 +107,7 @@ module _ (v : Tic) (s : Sound v) where
   line_feed k h = row_feed (v.line k) (v.code k) (shown k h) (code_shows (v.code k) (s.code k h)).0 (code_shows (v.code k) (s.code k h)).1
 
   -- the text is framed, with as many lines as are rejected
-  pub text_framed : framed_lines tic_layout (tic_text v) ≡ Of (listed_count v)
+  pub text_framed : framed_lines tic_layout (tic_text v) ≡ Some (listed_count v)
   unfolding tic_text head
   text_framed =
       joined_framed tic_layout head (listed_at v) (footer_text v.sums) (listed_count v) head_long (listed_at_length v wide) (footer_length v.sums)
@@ -162,7 +161,7 @@ module _ (v : Tic) (s : Sound v) where
       ap (λ (h : TicHead). record { head = h; listed = listed_count v; sums = sums_of (tic_footer (tic_text v) (listed_count v)) }) header_back
       ∙ ap (λ (x : TicSums). record { head = v.head; listed = listed_count v; sums = x }) footer_back
 
-  pub reads : read_tic (tic_text v) ≡ Values (numbers_of v)
+  pub reads : read_tic (tic_text v) ≡ Ok (numbers_of v)
   reads =
       let t : List ℕ = tic_text v in
       sym (read_from t (listed_count v) text_framed
@@ -171,4 +170,4 @@ module _ (v : Tic) (s : Sound v) where
       (past (ap not text_lines)
       (past (ap not (ap footer_formed text_footer ∙ foot_formed v.sums s.fifteen rejected_small))
       (past (ap not text_sums) none))))))
-      ∙ ap {B = TicReading} Values values_back
+      ∙ ap {B = Result TicValues TicFault} Ok values_back

@@ -1,14 +1,13 @@
 -- Writing what was read: the same rendering, of the values read; E7 and nothing written into too short an output. Assumes nothing.
-use Rattle.std.specs.Prelude.{◌≡◌, cond, List, [], ◌∷◌, ℕ, ◌+◌, ◌*◌, ◌≤◌, length, ltb}
+use Rattle.std.specs.Prelude.{◌≡◌, cond, List, [], ◌∷◌, ℕ, ◌+◌, ◌*◌, ◌≤◌, length, ltb, Result, Ok, Err}
 use Rattle.lines.specs.Rows.{file_length}
 use Rattle.lines.specs.Splice.{splice}
 use Rattle.tic_text.specs.Columns.{tic_layout, tif_receiver, received_stem, reception_moment, shown_part, code_part}
 use Rattle.tic_parts.specs.Reading.{tic_header, tic_footer, tic_lines, row_at, head_of, sums_of, fault_text, read_tic}
 use Rattle.tic_text.specs.Text.{Tic, tic_text}
-use Rattle.tic.specs.declared.rewriting.Rewritten.{Rewritten}
-use Rattle.tic.specs.declared.rewriting.Rewritten.TheVariants.{TooShort, Written}
-use Rattle.tic_text.specs.declared.values.TicReading.{TicReading}
-use Rattle.tic_text.specs.declared.values.TicReading.TheVariants.{Unreadable, Values}
+use Rattle.tic.specs.declared.rewriting.RewriteFault.{RewriteFault}
+use Rattle.tic.specs.declared.rewriting.RewriteFault.TheVariants.{Unreadable, TooShort}
+use Rattle.tic_text.specs.declared.values.TicFault.{TicFault}
 use Rattle.tic_text.specs.declared.values.TicValues.{TicValues}
 
 -- what reading takes from a TIC
@@ -35,26 +34,25 @@ abbrev pub tic_length : ℕ → ℕ
 tic_length n = file_length tic_layout n
 
 -- ---- the answer, for an output of so many bytes
-abbrev pub written_in : TicReading → ℕ → Rewritten
-written_in (Unreadable fault) room = Rewritten.Unreadable fault
-written_in (Values v) room = cond (ltb room (tic_length v.listed)) TooShort (Written (tic_length v.listed))
+abbrev pub written_in : Result TicValues TicFault → ℕ → Result ℕ RewriteFault
+written_in (Err fault) room = Err (Unreadable fault)
+written_in (Ok v) room = cond (ltb room (tic_length v.listed)) (Err TooShort) (Ok (tic_length v.listed))
 
-unfoldable pub rewritten_for : List ℕ → ℕ → Rewritten
+unfoldable pub rewritten_for : List ℕ → ℕ → Result ℕ RewriteFault
 rewritten_for tic room = written_in (read_tic tic) room
 
 -- the paper's text of each answer: T1 to T5, E7, and none for a TIC that was written
-abbrev pub refusal_text : Rewritten → List ℕ
-refusal_text (Rewritten.Unreadable fault) = fault_text fault
-refusal_text TooShort = 69 ∷ 55 ∷ []
-refusal_text (Written n) = []
+abbrev pub refusal_text : Result ℕ RewriteFault → List ℕ
+refusal_text (Err (Unreadable fault)) = fault_text fault
+refusal_text (Err TooShort) = 69 ∷ 55 ∷ []
+refusal_text (Ok n) = []
 
 -- ---- the output afterwards: the TIC's text at its start, and past it what was there; or all of it as it was
-abbrev pub output_of : Rewritten → List ℕ → List ℕ → List ℕ
-output_of (Rewritten.Unreadable fault) tic out = out
-output_of TooShort tic out = out
-output_of (Written n) tic out = splice out 0 (tic_text (tic_of tic))
+abbrev pub output_of : Result ℕ RewriteFault → List ℕ → List ℕ → List ℕ
+output_of (Err fault) tic out = out
+output_of (Ok n) tic out = splice out 0 (tic_text (tic_of tic))
 
-pub record Rewrites (tic out : List ℕ) (r : Rewritten) (out' : List ℕ) : Type 0 where
+pub record Rewrites (tic out : List ℕ) (r : Result ℕ RewriteFault) (out' : List ℕ) : Type 0 where
   pub answer : r ≡ rewritten_for tic (length out)
   pub output : out' ≡ output_of (rewritten_for tic (length out)) tic out
 
@@ -68,5 +66,5 @@ pub record LinesRoom (tic : List ℕ) (n from : ℕ) (out : List ℕ) : Type 0 w
   pub room : from + n * 812 ≤ length out
 
 pub record WholeRoom (tic : List ℕ) (v : TicValues) (out : List ℕ) : Type 0 where
-  pub reads : read_tic tic ≡ Values v
+  pub reads : read_tic tic ≡ Ok v
   pub room : tic_length v.listed ≤ length out

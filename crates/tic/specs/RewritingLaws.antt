@@ -1,5 +1,5 @@
 -- What is known of a TIC that was read and is written again. Assumes nothing.
-use Rattle.std.specs.Prelude.{◌≡◌, true, List, ◌++◌, ℕ, ◌*◌, ◌≤◌, ◌<◌, length}
+use Rattle.std.specs.Prelude.{◌≡◌, true, List, ◌++◌, ℕ, ◌*◌, ◌≤◌, ◌<◌, length, Result, Ok, Err}
 use Rattle.std.proofs.Common.{sym, ap, ◌∙◌, subst, arith, length-append}
 use borrow.Author.Tests.{eqb-true, lt-ltb, le-ltb}
 use Rattle.lines.specs.Below.{join_below}
@@ -16,11 +16,10 @@ use Rattle.tic.specs.Rewriting.{line_read, code_read, tic_of, tic_length, rewrit
 use Rattle.tic_text.specs.Text.{header_text, listed_at, listed_count, footer_text, tic_text}
 use Rattle.tic_text.specs.TextLaws.{part_length, listed_length, join_even, Wide, tic_length_lem}
 use Rattle.tic_text.specs.TextLaws as texts
-use Rattle.tic.specs.declared.rewriting.Rewritten.{Rewritten}
-use Rattle.tic.specs.declared.rewriting.Rewritten.TheVariants.{TooShort, Written}
+use Rattle.tic.specs.declared.rewriting.RewriteFault.{RewriteFault}
+use Rattle.tic.specs.declared.rewriting.RewriteFault.TheVariants.{Unreadable, TooShort}
 use Rattle.tic_text.specs.declared.values.TicFault.{TicFault}
 use Rattle.tic_text.specs.declared.values.TicHead.{TicHead}
-use Rattle.tic_text.specs.declared.values.TicReading.TheVariants.{Unreadable, Values}
 use Rattle.tic_text.specs.declared.values.TicSums.{TicSums}
 use Rattle.tic_text.specs.declared.values.TicValues.{TicValues}
 
@@ -58,7 +57,7 @@ pub record Again (tic : List ℕ) (v : TicValues) : Type 0 where
   pub header_long : length (tic_header tic) ≡ 196
   pub wide : Wide (tic_of tic)
 
-pub again : (tic : List ℕ) (v : TicValues) → read_tic tic ≡ Values v → Again tic v
+pub again : (tic : List ℕ) (v : TicValues) → read_tic tic ≡ Ok v → Again tic v
 again tic v e =
     let shown = read_shows tic v e in
     let r = shown.0 in
@@ -110,21 +109,21 @@ whole_put tic v g receiver stem moment er es em out out₁ out₂ out₃ a b r r
 
 -- ---- the three answers
 module _ (tic out : List ℕ) where
-  pub not_read : (f : TicFault) → read_tic tic ≡ Unreadable f → Rewrites tic out (Rewritten.Unreadable f) out
+  pub not_read : (f : TicFault) → read_tic tic ≡ Err f → Rewrites tic out (Err (Unreadable f)) out
   unfolding rewritten_for
   not_read f e = record { answer = rw e; output = rw e }
 
-  module _ (v : TicValues) (e : read_tic tic ≡ Values v) where
-    pub too_short : length out < length tic → Rewrites tic out TooShort out
+  module _ (v : TicValues) (e : read_tic tic ≡ Ok v) where
+    pub too_short : length out < length tic → Rewrites tic out (Err TooShort) out
     unfolding rewritten_for
     too_short h =
         let t = lt-ltb (length out) (tic_length v.listed) (omega (arith, (again tic v e).long)) in
         record { answer = rw (e, t); output = rw (e, t) }
 
-    pub written : (r : ℕ) (out' : List ℕ) → length tic ≤ length out → Put (tic_text (tic_of tic)) 0 out r out' → Rewrites tic out (Written r) out'
+    pub written : (r : ℕ) (out' : List ℕ) → length tic ≤ length out → Put (tic_text (tic_of tic)) 0 out r out' → Rewrites tic out (Ok r) out'
     unfolding rewritten_for
     written r out' h p =
         let g = again tic v e in
         let t = le-ltb (length out) (tic_length v.listed) (omega (arith, g.long)) in
         let n : r ≡ tic_length v.listed = omega (arith, p.place, tic_length_lem (tic_of tic) g.wide, g.count) in
-        record { answer = rw (e, t) (ap {B = Rewritten} Written n); output = rw (e, t) p.spliced }
+        record { answer = rw (e, t) (ap {B = Result ℕ RewriteFault} Ok n); output = rw (e, t) p.spliced }

@@ -1,5 +1,5 @@
 -- Write then read gives back exactly the listed lines, in order, with their codes; and name and moment. Assumes nothing.
-use Rattle.std.specs.Prelude.{◌≡◌, List, ◌++◌, ℕ, ◌+◌, ◌<◌}
+use Rattle.std.specs.Prelude.{◌≡◌, List, ◌++◌, ℕ, ◌+◌, ◌<◌, Err}
 use Rattle.std.proofs.Common.{sym, ◌∙◌, arith}
 use Rattle.std.proofs.Math.Path.{ap}
 use Rattle.lines.specs.Columns.{cols}
@@ -12,7 +12,7 @@ use Rattle.tic_parts.specs.Reading.{read_tic}
 use Rattle.tic.specs.RenderedLaws.{reads, shown, text_line, text_header, header_values}
 use Rattle.tic.specs.Sound.{Sound, numbers_of}
 use Rattle.tic_text.specs.Text.{Tic, listed_at, listed_count, tic_text}
-use Rattle.tic.specs.declared.listed.Listed.TheVariants.{NoSuchLine}
+use Rattle.tic.specs.declared.listed.ListedFault.TheVariants.{NoSuchLine}
 
 module _ (v : Tic) (s : Sound v) where
   -- listed line k + 1, counted from 1, is the line k of the values, with its code
@@ -26,7 +26,7 @@ module _ (v : Tic) (s : Sound v) where
       )
 
   -- and there is no other
-  pub no_other : (listed_line (tic_text v) 0 ≡ NoSuchLine) × ((k : ℕ) → listed_count v < k → listed_line (tic_text v) k ≡ NoSuchLine)
+  pub no_other : (listed_line (tic_text v) 0 ≡ Err NoSuchLine) × ((k : ℕ) → listed_count v < k → listed_line (tic_text v) k ≡ Err NoSuchLine)
   no_other = (none_at_zero (tic_text v) (numbers_of v) (reads v s), none_above (tic_text v) (numbers_of v) (reads v s))
 
   -- the TIF's receiver, columns 1 to 21 of its name, and the moment of its reception

@@ -6,7 +6,8 @@ mod reading;
 mod rewriting;
 
 pub use listed::{
-    Listed, listed_line, shown_code, shown_identity, shown_line, shown_moment, shown_receiver,
+    Listed, ListedFault, ListedPlace, listed_line, shown_code, shown_identity, shown_line,
+    shown_moment, shown_receiver,
 };
 pub use reading::{fault_number, read_tic};
-pub use rewriting::{Rewritten, rewrite_tic};
+pub use rewriting::{RewriteFault, rewrite_tic};

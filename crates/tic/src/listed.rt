@@ -1,31 +1,49 @@
 ghost use Rattle.std.specs.Prelude.{◌≡◌, ◌≤◌, take, drop};
 ghost use Rattle.lines.specs.Rows.{most_lines};
+ghost use Rattle.tic.specs.declared.listed.ListedFault.TheVariants.{Unreadable};
 ghost use Rattle.tic.specs.Listed.{listed_place, listed_line, shown_line, shown_code, shown_receiver, shown_identity, shown_moment, shown_part};
 
 use crate::reading::read_tic;
 use tic_text::{TIC, TicFault, TicReading};
 
-// Where listed line k stands: the place of the line and that of its code; or T6; or why the TIC does not read.
+// Where a listed line begins in the TIC, and where its code does.
 #[derive(Clone, Copy)]
-pub enum Listed {
-    At(usize, usize),
+pub struct ListedPlace {
+    pub line: usize,
+    pub code: usize,
+}
+
+// Why there is no such place: T6, or what keeps the TIC from being read.
+#[derive(Clone, Copy)]
+pub enum ListedFault {
     NoSuchLine,
     Unreadable(TicFault),
 }
+
+impl From<TicFault> for ListedFault {
+    ghost from_gives = { λ fault e. e ≡ Unreadable fault };
+
+    fn from(fault: TicFault) -> ListedFault {
+        ListedFault::Unreadable(fault)
+    }
+}
+
+// What asking for a listed line gives.
+pub type Listed = Result<ListedPlace, ListedFault>;
 
 #[tactic(auto, unfolding(crate::specs::Listed::listed_place, lines::specs::FirstOf::first_of))]
 fn listed_place(listed: usize, k: usize) -> Listed
     requires { listed ≤ most_lines }
     ensures { result ≡ listed_place listed k }
 {
-    if k == 0 {
-        return Listed::NoSuchLine;
-    }
-    if k > listed {
-        return Listed::NoSuchLine;
+    if k == 0 || k > listed {
+        return Err(ListedFault::NoSuchLine);
     }
     let line = TIC.header + (k - 1) * TIC.line;
-    Listed::At(line, line + 809)
+    Ok(ListedPlace {
+        line,
+        code: line + 809,
+    })
 }
 
 // Listed line k, counted from 1.
@@ -33,10 +51,8 @@ fn listed_place(listed: usize, k: usize) -> Listed
 pub fn listed_line(tic: &[u8], k: usize) -> Listed
     ensures { result ≡ listed_line tic.now k }
 {
-    match read_tic(tic) {
-        TicReading::Unreadable(fault) => Listed::Unreadable(fault),
-        TicReading::Values(values) => listed_place(values.listed, k),
-    }
+    let values = read_tic(tic)?;
+    listed_place(values.listed, k)
 }
 
 // The part from a place on, as much of it as there is.
@@ -59,9 +75,8 @@ pub fn shown_line(tic: &[u8], listed: Listed) -> &[u8]
     ensures { result.now ≡ shown_line tic.now listed }
 {
     match listed {
-        Listed::At(line, _) => part_of(tic, line, 809),
-        Listed::NoSuchLine => &tic[0..0],
-        Listed::Unreadable(_) => &tic[0..0],
+        Ok(place) => part_of(tic, place.line, 809),
+        Err(_) => &tic[0..0],
     }
 }
 
@@ -70,9 +85,8 @@ pub fn shown_code(tic: &[u8], listed: Listed) -> &[u8]
     ensures { result.now ≡ shown_code tic.now listed }
 {
     match listed {
-        Listed::At(_, code) => part_of(tic, code, 2),
-        Listed::NoSuchLine => &tic[0..0],
-        Listed::Unreadable(_) => &tic[0..0],
+        Ok(place) => part_of(tic, place.code, 2),
+        Err(_) => &tic[0..0],
     }
 }
 
@@ -82,8 +96,8 @@ fn shown_part(tic: &[u8], reading: TicReading, from: usize, width: usize) -> &[u
     ensures { result.now ≡ shown_part tic.now reading from width }
 {
     match reading {
-        TicReading::Unreadable(_) => &tic[0..0],
-        TicReading::Values(_read) => part_of(tic, from, width),
+        Err(_) => &tic[0..0],
+        Ok(_read) => part_of(tic, from, width),
     }
 }
 

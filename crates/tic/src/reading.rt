@@ -1,7 +1,7 @@
 ghost use Rattle.std.specs.Prelude.{◌≡◌};
 ghost use Rattle.tic_parts.specs.Reading.{fault_number, read_tic};
 
-use lines::{Lines, footer_of, framed_lines, header_of};
+use lines::{footer_of, framed_lines, header_of};
 use tic_parts::{
     counts_agree, footer_formed, head_of, header_sound, lines_formed, listed_sum, sums_fit, sums_of,
 };
@@ -12,29 +12,29 @@ use tic_text::{TIC, TicFault, TicReading, TicValues};
 pub fn read_tic(tic: &[u8]) -> TicReading
     ensures { result ≡ read_tic tic.now }
 {
-    let Lines::Of(n) = framed_lines(TIC, tic) else {
-        return TicReading::Unreadable(TicFault::Framing);
+    let Some(n) = framed_lines(TIC, tic) else {
+        return Err(TicFault::Framing);
     };
     let header = header_of(TIC, tic);
     if !header_sound(header) {
-        return TicReading::Unreadable(TicFault::Header);
+        return Err(TicFault::Header);
     }
     let head = head_of(header);
     if !counts_agree(header, head, n) {
-        return TicReading::Unreadable(TicFault::Counts);
+        return Err(TicFault::Counts);
     }
     if !lines_formed(tic, n) {
-        return TicReading::Unreadable(TicFault::ListedLine);
+        return Err(TicFault::ListedLine);
     }
     let footer = footer_of(TIC, tic, n);
     if !footer_formed(footer) {
-        return TicReading::Unreadable(TicFault::Footer);
+        return Err(TicFault::Footer);
     }
     let sums = sums_of(footer);
     if !sums_fit(head, sums, listed_sum(tic, n)) {
-        return TicReading::Unreadable(TicFault::Footer);
+        return Err(TicFault::Footer);
     }
-    TicReading::Values(TicValues {
+    Ok(TicValues {
         head,
         listed: n,
         sums,

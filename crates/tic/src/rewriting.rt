@@ -3,22 +3,29 @@ ghost use Rattle.lines.specs.Below.{join_below};
 ghost use Rattle.lines.specs.Splice.{Put};
 ghost use Rattle.tic_text.specs.Columns.{shown_part, code_part};
 ghost use Rattle.tic_text.specs.Text.{listed_text, listed_at, tic_text};
-ghost use Rattle.tic_parts.specs.Reading.{read_tic};
+ghost use Rattle.tic.specs.declared.rewriting.RewriteFault.TheVariants.{Unreadable};
 ghost use Rattle.tic.specs.Rewriting.{tic_of, RowRoom, LinesRoom, WholeRoom, Rewrites};
 
 use crate::reading::read_tic;
 use lines::{field, header_of, line_of};
 use tic_text::{
-    CODE, RECEIVED_STEM, RECEPTION_MOMENT, SHOWN, TIC, TIF_RECEIVER, TicFault, TicReading,
-    TicValues, put_footer, put_header, put_listed,
+    CODE, RECEIVED_STEM, RECEPTION_MOMENT, SHOWN, TIC, TIF_RECEIVER, TicFault, TicValues,
+    put_footer, put_header, put_listed,
 };
 
-// What became of writing a TIC that was read: why it does not read, E7, or the length written.
+// Why nothing was written: what keeps the TIC from being read, or E7.
 #[derive(Clone, Copy)]
-pub enum Rewritten {
+pub enum RewriteFault {
     Unreadable(TicFault),
     TooShort,
-    Written(usize),
+}
+
+impl From<TicFault> for RewriteFault {
+    ghost from_gives = { λ fault e. e ≡ Unreadable fault };
+
+    fn from(fault: TicFault) -> RewriteFault {
+        RewriteFault::Unreadable(fault)
+    }
 }
 
 // A listed line as it was read, written again.
@@ -59,22 +66,13 @@ fn put_tic(out: &mut [u8], tic: &[u8], values: TicValues) -> usize
     put_footer(out, at, sums)
 }
 
-// Reads a TIC and writes what was read: nothing is written unless it reads and out is long enough.
-pub fn rewrite_tic(tic: &[u8], out: &mut [u8]) -> Rewritten
+// Reads a TIC and writes what was read, and tells the length written: nothing is written unless it reads and out is long enough.
+pub fn rewrite_tic(tic: &[u8], out: &mut [u8]) -> Result<usize, RewriteFault>
     ensures { Rewrites tic.now out.old result out.new }
 {
-    match read_tic(tic) {
-        TicReading::Unreadable(fault) => Rewritten::Unreadable(fault),
-        TicReading::Values(values) => write_again(out, tic, values),
-    }
-}
-
-fn write_again(out: &mut [u8], tic: &[u8], values: TicValues) -> Rewritten
-    requires { read_tic tic.now ≡ TicReading.Values values }
-    ensures { Rewrites tic.now out.old result out.new }
-{
+    let values = read_tic(tic)?;
     if out.len() < tic.len() {
-        return Rewritten::TooShort;
+        return Err(RewriteFault::TooShort);
     }
-    Rewritten::Written(put_tic(out, tic, values))
+    Ok(put_tic(out, tic, values))
 }

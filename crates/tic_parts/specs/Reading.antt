@@ -1,5 +1,5 @@
 -- Reading a TIC: T1 length or line feeds, T2 header form, T3 counts, T4 a listed line, T5 footer, in this order, or its values. Assumes nothing.
-use Rattle.std.specs.Prelude.{Bool, false, not, ◌&&◌, ◌||◌, List, [], ◌∷◌, ℕ, ◌+◌, eqb, leb, ltb}
+use Rattle.std.specs.Prelude.{Bool, false, not, ◌&&◌, ◌||◌, List, [], ◌∷◌, ℕ, ◌+◌, eqb, leb, ltb, Result, Ok, Err}
 use Rattle.lines.specs.Below.{all_below, sum_below}
 use Rattle.lines.specs.Class.{all_of}
 use Rattle.lines.specs.Columns.{col}
@@ -24,8 +24,6 @@ use Rattle.tic_text.specs.declared.values.TicSums.{TicSums}
 use Rattle.tic_text.specs.declared.values.TicValues.{TicValues}
 use Rattle.tic_text.specs.declared.values.TicFault.{TicFault}
 use Rattle.tic_text.specs.declared.values.TicFault.TheVariants.{Framing, Header, Counts, ListedLine, Footer}
-use Rattle.tic_text.specs.declared.values.TicReading.{TicReading}
-use Rattle.tic_text.specs.declared.values.TicReading.TheVariants.{Unreadable, Values}
 
 -- the paper's number of each answer that refuses: T1 to T5
 abbrev pub fault_number : TicFault → ℕ
@@ -203,14 +201,14 @@ tic_header tic = header_of tic_layout tic
 abbrev pub tic_footer : List ℕ → ℕ → List ℕ
 tic_footer tic n = footer_of tic_layout tic n
 
-abbrev pub read_rows : List ℕ → ℕ → List (Row TicReading)
+abbrev pub read_rows : List ℕ → ℕ → List (Row (Result TicValues TicFault))
 read_rows tic n =
-    (not (is_framed (framed_lines tic_layout tic)) ⇒ Unreadable Framing)
-    ∷ (not (header_sound (tic_header tic)) ⇒ Unreadable Header)
-    ∷ (not (counts_agree (tic_header tic) n) ⇒ Unreadable Counts)
-    ∷ (not (lines_formed tic n) ⇒ Unreadable ListedLine)
-    ∷ (not (footer_formed (tic_footer tic n)) ⇒ Unreadable Footer)
-    ∷ (not (sums_fit (head_of (tic_header tic)) (sums_of (tic_footer tic n)) (listed_sum tic n)) ⇒ Unreadable Footer)
+    (not (is_framed (framed_lines tic_layout tic)) ⇒ Err Framing)
+    ∷ (not (header_sound (tic_header tic)) ⇒ Err Header)
+    ∷ (not (counts_agree (tic_header tic) n) ⇒ Err Counts)
+    ∷ (not (lines_formed tic n) ⇒ Err ListedLine)
+    ∷ (not (footer_formed (tic_footer tic n)) ⇒ Err Footer)
+    ∷ (not (sums_fit (head_of (tic_header tic)) (sums_of (tic_footer tic n)) (listed_sum tic n)) ⇒ Err Footer)
     ∷ []
 
 abbrev pub values_of : List ℕ → ℕ → TicValues
@@ -220,5 +218,5 @@ values_of tic n = record { head = head_of (tic_header tic); listed = n; sums = s
 abbrev pub tic_lines : List ℕ → ℕ
 tic_lines tic = framed_count (framed_lines tic_layout tic)
 
-unfoldable pub read_tic : List ℕ → TicReading
-read_tic tic = first_of (read_rows tic (tic_lines tic)) (Values (values_of tic (tic_lines tic)))
+unfoldable pub read_tic : List ℕ → Result TicValues TicFault
+read_tic tic = first_of (read_rows tic (tic_lines tic)) (Ok (values_of tic (tic_lines tic)))

@@ -1,5 +1,5 @@
 -- What the tests of a TIC show. Assumes nothing.
-use Rattle.std.specs.Prelude.{◌≡◌, refl, true, List, ℕ, ◌*◌, ◌≤◌, ◌<◌, length, take, drop}
+use Rattle.std.specs.Prelude.{◌≡◌, refl, true, List, ℕ, ◌*◌, ◌≤◌, ◌<◌, length, take, drop, Result, Ok, Err, Some, None}
 use Rattle.std.proofs.Common.{ap, ◌∙◌, arith, eqb-true}
 use Rattle.lines.specs.Below.{sum_below}
 use Rattle.lines.specs.BelowLaws.{all_at, sum_le}
@@ -9,7 +9,6 @@ use Rattle.lines.specs.Number.{all_digits}
 use Rattle.lines.specs.FirstOf.{Picks, picked, here, past}
 use Rattle.lines.specs.Rows.{most_lines, file_length, framed_lines}
 use Rattle.lines.specs.declared.class.Class.TheVariants.{DigitOrCapital, Only}
-use Rattle.lines.specs.declared.rows.Lines.TheVariants.{Of, OutOfForm}
 use Rattle.passage.specs.Passage.{gross_amount}
 use Rattle.passage.specs.PassageLaws.{gross_small}
 use Rattle.tif.specs.Every.{every_first, every_rest}
@@ -17,9 +16,9 @@ use Rattle.tif.specs.PartLaws.{take_short}
 use Rattle.tic_text.specs.Columns.{tic_layout, accepted_field, rejected_field, accepted_again, rejected_again, acceptance_field, code_part, accepted_sum_field, rejected_sum_field, footer_filler}
 use Rattle.tic_parts.specs.Reading.{header_digits, header_sound, head_of, listed_formed, row_at, listed_formed_at, lines_formed, footer_formed, listed_amount, read_rows, values_of, read_tic}
 use Rattle.tic_text.specs.declared.values.TicHead.{TicHead}
+use Rattle.tic_text.specs.declared.values.TicValues.{TicValues}
+use Rattle.tic_text.specs.declared.values.TicFault.{TicFault}
 use Rattle.tic_text.specs.declared.values.TicFault.TheVariants.{Framing}
-use Rattle.tic_text.specs.declared.values.TicReading.{TicReading}
-use Rattle.tic_text.specs.declared.values.TicReading.TheVariants.{Unreadable, Values}
 
 -- a header with its numbers, and how many lines are listed
 pub record Counting (h : List ℕ) (head : TicHead) (n : ℕ) : Type 0 where
@@ -118,11 +117,11 @@ unfolding header_sound
 sound_digits h e = every_first _ _ (every_rest _ _ (every_rest _ _ e))
 
 -- the answer for a file of n lines that is framed, from the rows behind the first
-pub read_from : (tic : List ℕ) (n : ℕ) {r : TicReading} → framed_lines tic_layout tic ≡ Of n → Picks (drop 1 (read_rows tic n)) (Values (values_of tic n)) r → r ≡ read_tic tic
+pub read_from : (tic : List ℕ) (n : ℕ) {r : Result TicValues TicFault} → framed_lines tic_layout tic ≡ Some n → Picks (drop 1 (read_rows tic n)) (Ok (values_of tic n)) r → r ≡ read_tic tic
 unfolding read_tic
 read_from tic n e p = rw e (picked (past refl p))
 
 -- the answer for a file that is not
-pub read_unframed : (tic : List ℕ) → framed_lines tic_layout tic ≡ OutOfForm → Unreadable Framing ≡ read_tic tic
+pub read_unframed : (tic : List ℕ) → framed_lines tic_layout tic ≡ None → Err Framing ≡ read_tic tic
 unfolding read_tic
 read_unframed tic e = rw e (picked (here refl))

@@ -40,11 +40,11 @@ pub fn sums_fit(head: TicHead, sums: TicSums, listed: Gross) -> bool
     let count = head.accepted;
     let accepted = sums.accepted;
     let rejected = sums.rejected;
-    if !rejected.equals(listed) {
+    if rejected != listed {
         return false;
     }
     if count.0 > 0 {
         return true;
     }
-    accepted.equals(Gross(0))
+    accepted == Gross(0)
 }

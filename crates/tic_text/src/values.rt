@@ -36,8 +36,4 @@ pub enum TicFault {
 }
 
 // What reading a TIC gives.
-#[derive(Clone, Copy)]
-pub enum TicReading {
-    Unreadable(TicFault),
-    Values(TicValues),
-}
+pub type TicReading = Result<TicValues, TicFault>;

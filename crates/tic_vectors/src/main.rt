@@ -4,8 +4,10 @@
 use frames::{print_bytes, print_line_feed, print_number, read_part, run_cases};
 use std::io;
 use std::io::{Read, Write};
-use tic::{Listed, Rewritten, fault_number, listed_line, read_tic, rewrite_tic};
-use tic_text::{TicFault, TicReading, TicValues};
+use tic::{
+    ListedFault, ListedPlace, RewriteFault, fault_number, listed_line, read_tic, rewrite_tic,
+};
+use tic_text::{TicFault, TicValues};
 use tif::Side;
 
 // The longest TIC of a case, and the longest output.
@@ -44,22 +46,22 @@ fn print_values(to: &mut impl Write, values: TicValues) -> io::Result<()> {
 
 fn print_reading(to: &mut impl Write, tic: &[u8]) -> io::Result<()> {
     match read_tic(tic) {
-        TicReading::Unreadable(fault) => print_fault(to, fault),
-        TicReading::Values(values) => print_values(to, values),
+        Ok(values) => print_values(to, values),
+        Err(fault) => print_fault(to, fault),
     }
 }
 
-fn print_place(to: &mut impl Write, line: usize, code: usize) -> io::Result<()> {
-    print_number(to, line as u64)?;
+fn print_place(to: &mut impl Write, place: ListedPlace) -> io::Result<()> {
+    print_number(to, place.line as u64)?;
     print_bytes(to, b" ")?;
-    print_number(to, code as u64)
+    print_number(to, place.code as u64)
 }
 
 fn print_listed(to: &mut impl Write, tic: &[u8], k: usize) -> io::Result<()> {
     match listed_line(tic, k) {
-        Listed::At(line, code) => print_place(to, line, code),
-        Listed::NoSuchLine => print_bytes(to, b"T6"),
-        Listed::Unreadable(fault) => print_fault(to, fault),
+        Ok(place) => print_place(to, place),
+        Err(ListedFault::NoSuchLine) => print_bytes(to, b"T6"),
+        Err(ListedFault::Unreadable(fault)) => print_fault(to, fault),
     }
 }
 
@@ -74,9 +76,9 @@ fn print_written(to: &mut impl Write, tic: &[u8], out: &[u8], n: usize) -> io::R
 
 fn print_rewritten(to: &mut impl Write, tic: &[u8], out: &mut [u8]) -> io::Result<()> {
     match rewrite_tic(tic, out) {
-        Rewritten::Unreadable(fault) => print_fault(to, fault),
-        Rewritten::TooShort => print_bytes(to, b"E7"),
-        Rewritten::Written(n) => print_written(to, tic, out, n),
+        Ok(n) => print_written(to, tic, out, n),
+        Err(RewriteFault::Unreadable(fault)) => print_fault(to, fault),
+        Err(RewriteFault::TooShort) => print_bytes(to, b"E7"),
     }
 }
 

@@ -1,5 +1,5 @@
 -- The lines of a TIF: their form and the exact sum of their amounts with VAT. Assumes nothing.
-use Rattle.std.specs.Prelude.{Bool, cond, List, [], ◌∷◌, ℕ, eqb}
+use Rattle.std.specs.Prelude.{Bool, cond, List, [], ◌∷◌, ℕ, eqb, Option, Some, None}
 use Rattle.lines.specs.Below.{all_below, sum_below}
 use Rattle.lines.specs.Columns.{col}
 use Rattle.lines.specs.Number.{all_digits, number_of}
@@ -8,15 +8,13 @@ use Rattle.lines.specs.declared.kinds.Gross.{Gross}
 use Rattle.passage.specs.Passage.{gross_amount}
 use Rattle.tif.specs.Columns.{tif_layout}
 use Rattle.tif.specs.Every.{every}
-use Rattle.tif.specs.declared.body.Amount.{Amount}
-use Rattle.tif.specs.declared.body.Amount.TheVariants.{States, OutOfForm}
 
 abbrev pub gross_of : ℕ → Gross
 gross_of v = record { 0 = v }
 
 -- an amount that is stated where the form is right
-unfoldable pub amount_if : Bool → ℕ → Amount
-amount_if formed v = cond formed (States (gross_of v)) OutOfForm
+unfoldable pub amount_if : Bool → ℕ → Option Gross
+amount_if formed v = cond formed (Some (gross_of v)) None
 
 -- column 1 is "1"; the amount with VAT is digits
 abbrev pub line_tests : List ℕ → List Bool
@@ -28,7 +26,7 @@ line_tests line =
 unfoldable pub line_sound : List ℕ → Bool
 line_sound line = every (line_tests line)
 
-unfoldable pub line_amount : List ℕ → Amount
+unfoldable pub line_amount : List ℕ → Option Gross
 line_amount line = amount_if (line_sound line) (number_of (gross_amount line))
 
 -- line k of a file, counted from 0
@@ -50,5 +48,5 @@ amount_at tif k = number_of (gross_amount (line_at tif k))
 unfoldable pub body_total : List ℕ → ℕ → ℕ
 body_total tif n = sum_below n (amount_at tif)
 
-unfoldable pub body_amount : List ℕ → ℕ → Amount
+unfoldable pub body_amount : List ℕ → ℕ → Option Gross
 body_amount tif n = amount_if (body_sound tif n) (body_total tif n)

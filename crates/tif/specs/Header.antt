@@ -1,5 +1,5 @@
 -- The header of a TIF: what it must hold, and the counts that it states. Assumes nothing.
-use Rattle.std.specs.Prelude.{Bool, ◌&&◌, ◌||◌, cond, List, [], ◌∷◌, ℕ, eqb}
+use Rattle.std.specs.Prelude.{Bool, ◌&&◌, ◌||◌, cond, List, [], ◌∷◌, ℕ, eqb, Option, Some, None}
 use Rattle.lines.specs.Class.{all_of}
 use Rattle.lines.specs.Columns.{col}
 use Rattle.lines.specs.Number.{all_digits, number_of}
@@ -12,8 +12,6 @@ use Rattle.tif.specs.Every.{every}
 use Rattle.tif.specs.Name.{name_sender, name_receiver, name_identity, version}
 use Rattle.tif.specs.Side.{side_of, is_sided}
 use Rattle.tif.specs.declared.header.Counts.{Counts}
-use Rattle.tif.specs.declared.header.Header.{Header}
-use Rattle.tif.specs.declared.header.Header.TheVariants.{States, OutOfForm}
 
 -- `NOK`
 abbrev pub nok : List ℕ
@@ -69,8 +67,8 @@ transactions_of header = number_of (header_transactions header)
 abbrev pub stated_counts : List ℕ → Counts
 stated_counts header = record { records = count_of (records_of header); transactions = count_of (transactions_of header) }
 
-unfoldable pub header_of_file : List ℕ → List ℕ → Header
-header_of_file name header = cond (header_sound name header) (States (stated_counts header)) OutOfForm
+unfoldable pub header_of_file : List ℕ → List ℕ → Option Counts
+header_of_file name header = cond (header_sound name header) (Some (stated_counts header)) None
 
 -- as many records as lines, and no transactions or as many
 unfoldable pub counts_agree : ℕ → ℕ → ℕ → Bool

@@ -1,6 +1,6 @@
 -- The laws of a header that states its counts or is out of form. Assumes nothing.
 use Rattle.std.proofs.Math.Path.{◌≡◌, refl}
-use Rattle.std.specs.Prelude.{◌||◌, Bool, ◌&&◌, List, ℕ, ◌<◌, length, drop}
+use Rattle.std.specs.Prelude.{◌||◌, Bool, ◌&&◌, List, ℕ, ◌<◌, length, drop, Some, None}
 use Rattle.std.proofs.Math.Bool.{true, false, cond}
 use Rattle.std.proofs.Common.{arith, length-take, length-drop, ne_eqb}
 use Rattle.std.proofs.Math.Dec.{eqb}
@@ -12,31 +12,30 @@ use Rattle.tif.specs.Every.{every}
 use Rattle.tif.specs.Header.{names_file, header_sound, count_of, records_of, transactions_of, header_of_file, stated_counts, counts_agree}
 use Rattle.tif.specs.Name.{name_sender, name_receiver, name_identity}
 use Rattle.tif.specs.declared.header.Counts.{Counts}
-use Rattle.tif.specs.declared.header.Header.TheVariants.{States, OutOfForm}
 
 module _ (name header : List ℕ) where
-  pub header_bad : header_sound name header ≡ false → header_of_file name header ≡ OutOfForm
+  pub header_bad : header_sound name header ≡ false → header_of_file name header ≡ None
   unfolding header_of_file
   header_bad e = rw e
 
   pub header_good : (records transactions : ℕ) → records ≡ records_of header → transactions ≡ transactions_of header → header_sound name header ≡ true
-      → States (record { records = count_of records; transactions = count_of transactions }) ≡ header_of_file name header
+      → Some (record { records = count_of records; transactions = count_of transactions }) ≡ header_of_file name header
   unfolding header_of_file
   header_good records transactions f g e = rw (e, f, g)
 
-  pub header_not : header_of_file name header ≡ OutOfForm → header_sound name header ≡ false
+  pub header_not : header_of_file name header ≡ None → header_sound name header ≡ false
   unfolding header_of_file
   header_not e = go (header_sound name header) e
     where
-      go : (b : Bool) → cond b (States (stated_counts header)) OutOfForm ≡ OutOfForm → b ≡ false
+      go : (b : Bool) → cond b (Some (stated_counts header)) None ≡ None → b ≡ false
       go true p = let z : ◌≡◌ {A = ℕ} 0 1 = cc in absurd (omega arith)
       go false p = refl
 
-  pub header_is : (counts : Counts) → header_of_file name header ≡ States counts → (header_sound name header ≡ true) × (counts ≡ stated_counts header)
+  pub header_is : (counts : Counts) → header_of_file name header ≡ Some counts → (header_sound name header ≡ true) × (counts ≡ stated_counts header)
   unfolding header_of_file
   header_is counts e = go (header_sound name header) e
     where
-      go : (b : Bool) → cond b (States (stated_counts header)) OutOfForm ≡ States counts → (b ≡ true) × (counts ≡ stated_counts header)
+      go : (b : Bool) → cond b (Some (stated_counts header)) None ≡ Some counts → (b ≡ true) × (counts ≡ stated_counts header)
       go true p = (refl, cc)
       go false p = let z : ◌≡◌ {A = ℕ} 0 1 = cc in absurd (omega arith)
 

@@ -1,5 +1,5 @@
 -- What it shows of a file that it is to be judged line by line. Assumes nothing.
-use Rattle.std.specs.Prelude.{◌≡◌, refl, Bool, true, false, ◌&&◌, List, [], ◌∷◌, ℕ, ◌≤◌, ◌<◌, length, take, eqb, ltb}
+use Rattle.std.specs.Prelude.{◌≡◌, refl, Bool, true, false, ◌&&◌, List, [], ◌∷◌, ℕ, ◌≤◌, ◌<◌, length, take, eqb, ltb, Ok, Err, Option, Some, None}
 use Rattle.std.proofs.Common.{sym, ap, ◌∙◌, arith, length-take-le}
 use Rattle.std.proofs.lemmas.Bool.{false≢true}
 use borrow.Author.Tests.{eqb-true, not-false, le-ltb}
@@ -12,8 +12,7 @@ use Rattle.lines.specs.Rows.{header_of, one_feed, line_feed_at, feeds_stand, fra
 use Rattle.lines.specs.RowsLaws.{Framed, framed_is, line_ends, line_length}
 use Rattle.lines.specs.Same.{same}
 use Rattle.lines.specs.SameLaws.{same_is}
-use Rattle.lines.specs.declared.rows.Lines.{Lines}
-use Rattle.tif.specs.Acceptance.{is_framed, framed_count, tif_lines, tif_header, tif_footer, whole_of, acceptance_of}
+use Rattle.tif.specs.Acceptance.{Acceptance, is_framed, framed_count, tif_lines, tif_header, tif_footer, whole_of, acceptance_of}
 use Rattle.tif.specs.Body.{line_at, line_sound, line_sound_at, body_sound, body_total}
 use Rattle.tif.specs.BodyLaws.{sum_small}
 use Rattle.tif.specs.Columns.{tif_layout, header_side, header_sender, header_receiver, header_sequence}
@@ -25,33 +24,28 @@ use Rattle.tif.specs.Name.{name_sender, name_receiver, name_identity}
 use Rattle.tif.specs.PartLaws.{front_part}
 use Rattle.tif.specs.Received.{is_received}
 use Rattle.tif.specs.Side.{side_text, side_of, is_sided}
-use Rattle.tif.specs.declared.acceptance.Acceptance.{Acceptance}
-use Rattle.tif.specs.declared.acceptance.Acceptance.TheVariants.{Judged}
 use Rattle.tif.specs.declared.acceptance.Whole.{Whole}
 use Rattle.tif.specs.declared.side.Side.{Side}
 
 -- an answer that carries lines comes from past every row that carries none
 carries : Acceptance → Bool
-carries (Judged w) = true
-carries Acceptance.AlreadyReceived = false
-carries Acceptance.OutOfForm = false
-carries Acceptance.CountsDiffer = false
-carries Acceptance.TotalDiffers = false
+carries (Ok w) = true
+carries (Err e) = false
 
-passed : (b : Bool) (a other : Acceptance) (rows : List (Row Acceptance)) (w : Whole) → carries a ≡ false → first_of ((b ⇒ a) ∷ rows) other ≡ Judged w
-    → (b ≡ false) × (first_of rows other ≡ Judged w)
+passed : (b : Bool) (a other : Acceptance) (rows : List (Row Acceptance)) (w : Whole) → carries a ≡ false → first_of ((b ⇒ a) ∷ rows) other ≡ Ok w
+    → (b ≡ false) × (first_of rows other ≡ Ok w)
 unfolding first_of carries
 passed true a other rows w n e = absurd (false≢true (sym n ∙ ap carries e))
 passed false a other rows w n e = (refl, e)
 
 -- past all of them it is the answer where none applies
-whole_is : (v w : Whole) → first_of [] (Judged v) ≡ Judged w → v ≡ w
+whole_is : (v w : Whole) → first_of {A = Acceptance} [] (Ok v) ≡ Ok w → v ≡ w
 unfolding first_of
 whole_is v w e = cc
 
-framed_of : (l : Lines) → is_framed l ≡ true → l ≡ Lines.Of (framed_count l)
-framed_of (Lines.Of n) e = refl
-framed_of Lines.OutOfForm e = absurd (false≢true e)
+framed_of : (l : Option ℕ) → is_framed l ≡ true → l ≡ Some (framed_count l)
+framed_of (Some n) e = refl
+framed_of None e = absurd (false≢true e)
 
 -- columns 74 to 76 of the file are those of its header
 side_if : Bool → List ℕ → Side
@@ -107,7 +101,7 @@ unfolding body_sound body_total
 total_small tif n h e = omega (arith, sum_small tif n e)
 
 -- what the rows show of a file of n lines, once none applies
-judged_at : (name names tif : List ℕ) (n : ℕ) → is_received names name ≡ false → framed_lines tif_layout tif ≡ Lines.Of n → header_sound name (tif_header tif) ≡ true
+judged_at : (name names tif : List ℕ) (n : ℕ) → is_received names name ≡ false → framed_lines tif_layout tif ≡ Some n → header_sound name (tif_header tif) ≡ true
     → body_sound tif n ≡ true → footer_sound (tif_footer tif n) ≡ true → counts_agree (records_of (tif_header tif)) (transactions_of (tif_header tif)) n ≡ true
     → eqb (total_of (tif_footer tif n)) (body_total tif n) ≡ true → JudgedFile name names tif (whole_of tif n)
 judged_at name names tif n fresh frame header body footer counts total =
@@ -126,7 +120,7 @@ judged_at name names tif n fresh frame header body footer counts total =
       small = total_small tif n f.counted.few body;
     }
 
-pub judged_shows : (name names tif : List ℕ) (w : Whole) → acceptance_of name names tif ≡ Judged w → JudgedFile name names tif w
+pub judged_shows : (name names tif : List ℕ) (w : Whole) → acceptance_of name names tif ≡ Ok w → JudgedFile name names tif w
 unfolding acceptance_of carries
 judged_shows name names tif w e =
     let c₁ = passed _ _ _ _ w refl e in

@@ -5,44 +5,32 @@ ghost use Rattle.tif.specs.Columns.{tif_layout};
 ghost use Rattle.tif.specs.Body.{line_amount, body_amount};
 
 use crate::reader::tif_line;
-use lines::{Digits, Gross, field, read_digits};
+use lines::{Gross, field, read_digits};
 use passage::GROSS_AMOUNT;
 
-// An amount with VAT that a line, a body or a footer states.
-#[derive(Clone, Copy)]
-pub enum Amount {
-    States(Gross),
-    OutOfForm,
-}
-
-// The amount of a line.
+// The amount with VAT of a line, where it is of the right form.
 #[tactic(auto, unfolding(crate::specs::Body::line_amount, crate::specs::Body::line_sound, crate::specs::Every::every, crate::specs::Body::amount_if, lines::specs::Number::read_digits))]
-pub fn line_amount(line: &[u8]) -> Amount
+pub fn line_amount(line: &[u8]) -> Option<Gross>
     requires { length line.now ≡ line_width }
     ensures { result ≡ line_amount line.now }
 {
     if line[0] != b'1' {
-        return Amount::OutOfForm;
+        return None;
     }
-    let Digits::Value(v) = read_digits(field(line, GROSS_AMOUNT)) else {
-        return Amount::OutOfForm;
+    let Some(v) = read_digits(field(line, GROSS_AMOUNT)) else {
+        return None;
     };
-    Amount::States(Gross(v))
+    Some(Gross(v))
 }
 
-// The exact sum of the amounts of n lines.
-pub fn body_amount(tif: &[u8], n: usize) -> Amount
+// The exact sum of the amounts of n lines, where all are of the right form.
+pub fn body_amount(tif: &[u8], n: usize) -> Option<Gross>
     requires { (file_length tif_layout n ≤ length tif.now) × (n ≤ most_lines) }
     ensures { result ≡ body_amount tif.now n }
 {
     let mut sum = Gross(0);
-    let mut k = 0;
-    while k < n {
-        let Amount::States(amount) = line_amount(tif_line(tif, k)) else {
-            return Amount::OutOfForm;
-        };
-        sum = sum.plus(amount);
-        k += 1;
+    for k in 0..n {
+        sum = sum.plus(line_amount(tif_line(tif, k))?);
     }
-    Amount::States(sum)
+    Some(sum)
 }

@@ -2,24 +2,23 @@ ghost use Rattle.std.specs.Prelude.{◌≡◌, length};
 ghost use Rattle.tif.specs.Columns.{footer_width};
 ghost use Rattle.tif.specs.Footer.{footer_amount};
 
-use crate::body::Amount;
 use crate::columns::{FOOTER_FILLER, TOTAL};
-use lines::{Class, Digits, Gross, all_of, field, read_digits};
+use lines::{Class, Gross, all_of, field, read_digits};
 
-// The total of a footer.
+// The total of a footer, where it is of the right form.
 #[tactic(auto, unfolding(crate::specs::Footer::footer_amount, crate::specs::Footer::footer_sound, crate::specs::Every::every, crate::specs::Body::amount_if, lines::specs::Number::read_digits))]
-pub fn footer_amount(footer: &[u8]) -> Amount
+pub fn footer_amount(footer: &[u8]) -> Option<Gross>
     requires { length footer.now ≡ footer_width }
     ensures { result ≡ footer_amount footer.now }
 {
     if footer[0] != b'2' {
-        return Amount::OutOfForm;
+        return None;
     }
     if !all_of(Class::Only(48), field(footer, FOOTER_FILLER)) {
-        return Amount::OutOfForm;
+        return None;
     }
-    let Digits::Value(v) = read_digits(field(footer, TOTAL)) else {
-        return Amount::OutOfForm;
+    let Some(v) = read_digits(field(footer, TOTAL)) else {
+        return None;
     };
-    Amount::States(Gross(v))
+    Some(Gross(v))
 }

@@ -8,7 +8,7 @@ use crate::columns::{
 };
 use crate::name::{NAME_IDENTITY, NAME_RECEIVER, NAME_SENDER, VERSION};
 use crate::side::{is_sided, side_of};
-use lines::{Class, Count, Digits, all_of, field, is_same, read_digits};
+use lines::{Class, Count, all_of, field, is_same, read_digits};
 use moment::is_moment;
 
 // How many records and transactions a header states.
@@ -16,13 +16,6 @@ use moment::is_moment;
 pub struct Counts {
     pub records: Count,
     pub transactions: Count,
-}
-
-// What a header is found to be.
-#[derive(Clone, Copy)]
-pub enum Header {
-    States(Counts),
-    OutOfForm,
 }
 
 // A name of fewer bytes has no receiver.
@@ -74,23 +67,23 @@ fn header_formed(header: &[u8]) -> bool
 
 // The counts that a header states which is of the right form and is that of the named file.
 #[tactic(auto, unfolding(crate::specs::Header::header_of_file, crate::specs::Header::header_sound, crate::specs::Every::every, lines::specs::Number::read_digits))]
-pub fn read_header(name: &[u8], header: &[u8]) -> Header
+pub fn read_header(name: &[u8], header: &[u8]) -> Option<Counts>
     requires { length header.now ≡ header_width }
     ensures { result ≡ header_of_file name.now header.now }
 {
     if !names_file(name, header) {
-        return Header::OutOfForm;
+        return None;
     }
     if !header_formed(header) {
-        return Header::OutOfForm;
+        return None;
     }
-    let Digits::Value(records) = read_digits(field(header, RECORDS)) else {
-        return Header::OutOfForm;
+    let Some(records) = read_digits(field(header, RECORDS)) else {
+        return None;
     };
-    let Digits::Value(transactions) = read_digits(field(header, TRANSACTIONS)) else {
-        return Header::OutOfForm;
+    let Some(transactions) = read_digits(field(header, TRANSACTIONS)) else {
+        return None;
     };
-    Header::States(Counts {
+    Some(Counts {
         records: Count(records),
         transactions: Count(transactions),
     })
@@ -103,11 +96,11 @@ pub fn counts_agree(counts: Counts, lines: Count) -> bool
 {
     let records = counts.records;
     let transactions = counts.transactions;
-    if !records.equals(lines) {
+    if records != lines {
         return false;
     }
-    if transactions.equals(Count(0)) {
+    if transactions == Count(0) {
         return true;
     }
-    transactions.equals(lines)
+    transactions == lines
 }

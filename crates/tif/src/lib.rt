@@ -11,8 +11,8 @@ mod reader;
 mod received;
 mod side;
 
-pub use acceptance::{Acceptance, Whole, acceptance_of};
-pub use body::{Amount, line_amount};
+pub use acceptance::{FileFault, Whole, acceptance_of};
+pub use body::line_amount;
 pub use columns::TIF;
 pub use name::{
     NAME_IDENTITY, NAME_RECEIVER, NAME_SENDER, NAME_STEM, is_actor, is_file_stem, is_name,

@@ -1,7 +1,7 @@
 ghost use Rattle.std.specs.Prelude.{◌≡◌, ◌≤◌, length};
 ghost use Rattle.tif.specs.Name.{is_actor, is_sequence, is_file_stem, is_name};
 
-use lines::{Class, Columns, Digits, all_of, field, is_same, read_digits};
+use lines::{Class, Columns, all_of, field, is_same, read_digits};
 use moment::is_date;
 
 // The parts of a file stem: what stands between the kind and the receiver.
@@ -52,7 +52,7 @@ fn is_sequence(s: &[u8]) -> bool
     requires { length s.now ≤ 15 }
     ensures { result ≡ is_sequence s.now }
 {
-    let Digits::Value(v) = read_digits(s) else {
+    let Some(v) = read_digits(s) else {
         return false;
     };
     v != 0

@@ -4,7 +4,7 @@
 use frames::{print_bytes, print_line_feed, print_number, read_part, run_cases};
 use std::io;
 use std::io::{Read, Write};
-use tif::{Acceptance, Side, Whole, acceptance_of, is_name, names_whole, side_of};
+use tif::{FileFault, Side, Whole, acceptance_of, is_name, names_whole, side_of};
 
 fn print_side(to: &mut impl Write, side: Side) -> io::Result<()> {
     match side {
@@ -21,13 +21,16 @@ fn print_whole(to: &mut impl Write, whole: Whole) -> io::Result<()> {
     print_number(to, whole.total.0)
 }
 
-fn print_acceptance(to: &mut impl Write, acceptance: Acceptance) -> io::Result<()> {
+fn print_acceptance(
+    to: &mut impl Write,
+    acceptance: Result<Whole, FileFault>,
+) -> io::Result<()> {
     match acceptance {
-        Acceptance::Judged(whole) => print_whole(to, whole),
-        Acceptance::AlreadyReceived => print_bytes(to, b"02"),
-        Acceptance::OutOfForm => print_bytes(to, b"05"),
-        Acceptance::CountsDiffer => print_bytes(to, b"03"),
-        Acceptance::TotalDiffers => print_bytes(to, b"04"),
+        Ok(whole) => print_whole(to, whole),
+        Err(FileFault::AlreadyReceived) => print_bytes(to, b"02"),
+        Err(FileFault::OutOfForm) => print_bytes(to, b"05"),
+        Err(FileFault::CountsDiffer) => print_bytes(to, b"03"),
+        Err(FileFault::TotalDiffers) => print_bytes(to, b"04"),
     }
 }
 

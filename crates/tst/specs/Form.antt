@@ -1,5 +1,5 @@
 -- The form of a toll station table (E8). Assumes nothing.
-use Rattle.std.specs.Prelude.{◌≡◌, Bool, true, false, not, ◌&&◌, ◌||◌, List, ℕ, ◌<◌, length, eqb}
+use Rattle.std.specs.Prelude.{◌≡◌, Bool, true, false, not, ◌&&◌, ◌||◌, List, ℕ, ◌<◌, length, eqb, Option, Some, None}
 use Rattle.lines.specs.Below.{all_below}
 use Rattle.lines.specs.Class.{all_of}
 use Rattle.lines.specs.Columns.{col}
@@ -8,8 +8,6 @@ use Rattle.lines.specs.Rows.{header_of, line_of, footer_of, lines_for, framed_li
 use Rattle.lines.specs.RowsLaws.{Framed}
 use Rattle.lines.specs.Same.{same}
 use Rattle.lines.specs.declared.class.Class.TheVariants.{DigitOrCapital}
-use Rattle.lines.specs.declared.rows.Lines.{Lines}
-use Rattle.lines.specs.declared.rows.Lines.TheVariants.{Of, OutOfForm}
 use Rattle.chains.specs.Index.{all_different}
 use Rattle.tst.specs.Columns.{tst_layout, record_count, version, version_text, actor, station, lane, station_spans}
 
@@ -52,9 +50,9 @@ rows_formed tst m =
     && (stations_formed tst m && (footer_formed (footer_of tst_layout tst m) && all_different tst_layout tst station_spans m))
 
 -- all of this for the number of lines that a table was found to have
-unfoldable pub formed_with : List ℕ → Lines → Bool
-formed_with tst (Of m) = rows_formed tst m
-formed_with tst OutOfForm = false
+unfoldable pub formed_with : List ℕ → Option ℕ → Bool
+formed_with tst (Some m) = rows_formed tst m
+formed_with tst None = false
 
 -- a lent table is of the right form: its length and line feeds are right for m lines, from 0 to 9,999, and its rows for that m
 unfoldable pub table_formed : List ℕ → Bool

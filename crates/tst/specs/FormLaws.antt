@@ -1,5 +1,5 @@
 -- What is known of a lent table of the right form. Assumes nothing.
-use Rattle.std.specs.Prelude.{◌≡◌, refl, true, ◌&&◌, List, ℕ, ◌≤◌, length}
+use Rattle.std.specs.Prelude.{◌≡◌, refl, true, ◌&&◌, List, ℕ, ◌≤◌, length, Option, Some, None}
 use Rattle.std.proofs.lemmas.Bool.{false≢true}
 use Rattle.std.proofs.Common.{arith}
 use Rattle.lines.specs.Below.{all_below}
@@ -8,8 +8,6 @@ use Rattle.lines.specs.BoolLaws.{and_left, and_right}
 use Rattle.lines.specs.Rows.{header_of, footer_of, framed_lines, Counted}
 use Rattle.lines.specs.RowsLaws.{Framed, framed_is}
 use Rattle.lines.specs.Spans.{span_in, spans_in}
-use Rattle.lines.specs.declared.rows.Lines.{Lines}
-use Rattle.lines.specs.declared.rows.Lines.TheVariants.{Of, OutOfForm}
 use Rattle.chains.specs.Index.{Ruled, all_different}
 use Rattle.tst.specs.Columns.{tst_layout, station_spans}
 use Rattle.tst.specs.Form.{is_lent, stations_of, header_formed, station_formed_at, stations_formed, footer_formed, rows_formed, formed_with, table_formed, table_sound, Tabled}
@@ -47,9 +45,9 @@ formed_tabled : (tst : List ℕ) → table_formed tst ≡ true → Tabled tst
 unfolding table_formed formed_with
 formed_tabled tst e = go (framed_lines tst_layout tst) refl e
   where
-    go : (lines : Lines) → framed_lines tst_layout tst ≡ lines → formed_with tst lines ≡ true → Tabled tst
-    go (Of m) f p = rows_tabled tst m (framed_is _ _ _ f) p
-    go OutOfForm f p = absurd (false≢true p)
+    go : (lines : Option ℕ) → framed_lines tst_layout tst ≡ lines → formed_with tst lines ≡ true → Tabled tst
+    go (Some m) f p = rows_tabled tst m (framed_is _ _ _ f) p
+    go None f p = absurd (false≢true p)
 
 -- a sound table that is lent is of the right form
 pub sound_tabled : (tst : List ℕ) → table_sound tst ≡ true → is_lent tst ≡ true → Tabled tst

@@ -6,8 +6,7 @@ ghost use Rattle.tst.specs.Form.{is_lent, header_formed, station_formed, station
 use crate::columns::{ACTOR, LANE, RECORD_COUNT, STATION, STATION_SPANS, TST, VERSION};
 use chains::all_different;
 use lines::{
-    Class, Count, Digits, Lines, all_of, field, footer_of, framed_lines, header_of, is_same,
-    line_of, read_digits,
+    Class, Count, all_of, field, footer_of, framed_lines, header_of, is_same, line_of, read_digits,
 };
 
 // 500001
@@ -31,10 +30,10 @@ fn header_formed(header: &[u8], lines: Count) -> bool
     if !is_same(field(header, VERSION), &VERSION_TEXT) {
         return false;
     }
-    let Digits::Value(records) = read_digits(field(header, RECORD_COUNT)) else {
+    let Some(records) = read_digits(field(header, RECORD_COUNT)) else {
         return false;
     };
-    Count(records).equals(lines)
+    Count(records) == lines
 }
 
 // Whether a line is of the right form.
@@ -101,7 +100,7 @@ pub fn table_sound(tst: &[u8]) -> bool
     if !is_lent(tst) {
         return true;
     }
-    let Lines::Of(m) = framed_lines(TST, tst) else {
+    let Some(m) = framed_lines(TST, tst) else {
         return false;
     };
     rows_formed(tst, m)

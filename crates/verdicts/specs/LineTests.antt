@@ -1,5 +1,5 @@
 -- The tests of a line by itself, L1 to L5, with L9 among them: whether its station is known is told. Each is said as what a line has to show; where it does not, the verdict is given. Assumes nothing.
-use Rattle.std.specs.Prelude.{Bool, true, false, not, ◌&&◌, ◌||◌, List, [], ◌∷◌, ℕ, eqb}
+use Rattle.std.specs.Prelude.{Bool, true, false, not, ◌&&◌, ◌||◌, List, [], ◌∷◌, ℕ, eqb, Result, Ok, Err}
 use Rattle.lines.specs.Columns.{col, cols}
 use Rattle.lines.specs.FirstOf.{Row, ◌⇒◌, first_of}
 use Rattle.lines.specs.Number.{all_digits}
@@ -11,8 +11,6 @@ use Rattle.tif.specs.Every.{every}
 use Rattle.tif.specs.declared.side.Side.{Side}
 use Rattle.tif.specs.declared.side.Side.TheVariants.{Credit, Debit, Neither}
 use Rattle.verdicts.specs.Tables.{is_listed, types, tariff_classes, emissions, fuels}
-use Rattle.verdicts.specs.declared.line_tests.LineTest.{LineTest}
-use Rattle.verdicts.specs.declared.line_tests.LineTest.TheVariants.{Fails, Passes}
 use Rattle.verdicts.specs.declared.verdict.Verdict.{Verdict}
 use Rattle.verdicts.specs.declared.verdict.Verdict.TheVariants.{WrongType, FieldOutOfForm, OtherActor, UnknownStation, UnknownVehicle, PlateOutOfForm}
 
@@ -80,15 +78,15 @@ line_rows side sender known line =
     ∷ []
 
 -- the same tests, where the first that applies is only looked for
-abbrev pub failing : List (Row Verdict) → List (Row LineTest)
+abbrev pub failing : List (Row Verdict) → List (Row (Result (Unit {0}) Verdict))
 failing [] = []
-failing ((b ⇒ v) ∷ rows) = (b ⇒ Fails v) ∷ failing rows
+failing ((b ⇒ v) ∷ rows) = (b ⇒ Err v) ∷ failing rows
 
--- the first test that a line by itself fails
-unfoldable pub test_line : Side → List ℕ → Bool → List ℕ → LineTest
-test_line side sender known line = first_of (failing (line_rows side sender known line)) Passes
+-- the first test that a line by itself fails, as its verdict
+unfoldable pub test_line : Side → List ℕ → Bool → List ℕ → Result (Unit {0}) Verdict
+test_line side sender known line = first_of (failing (line_rows side sender known line)) (Ok tt)
 
 -- whether it fails none
-abbrev pub passes : LineTest → Bool
-passes (Fails v) = false
-passes Passes = true
+abbrev pub passes : Result (Unit {0}) Verdict → Bool
+passes (Err v) = false
+passes (Ok tt) = true

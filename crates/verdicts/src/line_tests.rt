@@ -17,13 +17,6 @@ use passage::{
 use plate::plate_on_line;
 use tif::Side;
 
-// What the tests of a line by itself find: the first that it fails, or none.
-#[derive(Clone, Copy)]
-pub enum LineTest {
-    Fails(Verdict),
-    Passes,
-}
-
 // A fuel is a code and then yes or no.
 const FUEL_CODE: Columns = Columns { from: 1, to: 2 };
 
@@ -151,30 +144,30 @@ pub fn plates_in_form(line: &[u8]) -> bool
     has_plate(line, DETECTED_PLATE, DETECTED_NATION)
 }
 
-// The first of L1, L2, L3, L9, L4 and L5 that a line fails; whether its station is known is told.
+// Err is the first of L1, L2, L3, L9, L4 and L5 that a line fails; whether its station is known is told.
 #[tactic(auto, unfolding(crate::specs::LineTests::test_line, lines::specs::FirstOf::first_of))]
-pub fn test_line(line: &[u8], side: Side, sender: &[u8], known: bool) -> LineTest
+pub fn test_line(line: &[u8], side: Side, sender: &[u8], known: bool) -> Result<(), Verdict>
     requires { length line.now ≡ line_width }
     ensures { result ≡ test_line side sender.now known line.now }
 {
     if !is_lawful_type(line, side) {
-        return LineTest::Fails(Verdict::WrongType);
+        return Err(Verdict::WrongType);
     }
     if !fields_in_form(line) {
-        return LineTest::Fails(Verdict::FieldOutOfForm);
+        return Err(Verdict::FieldOutOfForm);
     }
     let sent = is_from_sender(line, sender);
     if !sent {
-        return LineTest::Fails(Verdict::OtherActor);
+        return Err(Verdict::OtherActor);
     }
     if !known {
-        return LineTest::Fails(Verdict::UnknownStation);
+        return Err(Verdict::UnknownStation);
     }
     if !is_known_vehicle(line) {
-        return LineTest::Fails(Verdict::UnknownVehicle);
+        return Err(Verdict::UnknownVehicle);
     }
     if !plates_in_form(line) {
-        return LineTest::Fails(Verdict::PlateOutOfForm);
+        return Err(Verdict::PlateOutOfForm);
     }
-    LineTest::Passes
+    Ok(())
 }

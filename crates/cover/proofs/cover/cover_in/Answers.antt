@@ -1,3 +1,4 @@
+use Rattle.std.proofs.Common.{Some}
 use native.Mathlib.Omega.{arith}
 use Prim.Native.Nat.{ℕ, ◌+◌}
 use mathlib.Core.Path.{◌≡◌, sym, ap, ◌∙◌}
@@ -5,10 +6,10 @@ use lib.Dec.{ltb}
 use Rattle.book.specs.Layout.{width, agreements, periods_at, body_place}
 use Rattle.book.specs.Form.{Body}
 use Rattle.book.specs.FormLaws.{whole_is}
-use Rattle.cover.specs.Cover.{asked, has_cover, cover_in, covering_period}
+use Rattle.cover.specs.Cover.{asked, has_cover, cover_in, covering_period, place_at}
 use Rattle.cover.specs.CoverLaws.{body_at}
 use borrow.Author.Tests.{lt-ltb, le-ltb}
-use Rattle.cover.specs.declared.cover.Cover.{Cover}
+use Rattle.cover.specs.declared.cover.Place.{Place}
 use Rattle.cover.proofs.cover.cover_in.Goals as goal
 use Rattle.cover.proofs.cover.cover_in.Goals.{After-body_place-at, After-first_covering-j, After-periods_at}
 
@@ -59,4 +60,4 @@ unfolding cover_in
 returns c =
     let a = c.args in
     rw (lt-ltb a.i (agreements a.book.now) (omega arith), sym (has (goal.at.returns c).After-periods_at) ∙ lt-ltb _ _ c.if-j-periods_at.false)
-    (ap (λ (k : ℕ). Cover.At (record { agreement = a.i + 1; period = k + 1 })) (period (goal.at.returns c).After-first_covering-j))
+    (ap (λ (k : ℕ). Some (place_at a.i k)) (period (goal.at.returns c).After-first_covering-j))

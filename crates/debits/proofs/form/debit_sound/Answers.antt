@@ -9,4 +9,4 @@ pub returns : goal.returns
 unfolding debit_sound
 returns c =
     let amount = gross_amount c.args.line.now in
-    rw (eq-eqb _ _ c.if-line-ne49.false, eq-eqb _ _ c.if-line-ne10.false, sym c.is_debit_type.ensures ∙ not-false _ c.if-not-is_debit_type.false-raw) (sym (read_good amount c.in-Value.field-0 (cc)).0)
+    rw (eq-eqb _ _ c.if-line-ne49.false, eq-eqb _ _ c.if-line-ne10.false, sym c.is_debit_type.ensures ∙ not-false _ c.if-not-is_debit_type.false-raw) (sym (read_good amount c.in-Some.field-0 (cc)).0)

@@ -1,6 +1,7 @@
+use Rattle.std.proofs.Common.{Option, None}
 use mathlib.Core.Path.{◌≡◌, sym, ap, ◌∙◌}
 use Rattle.tif.specs.Body.{line_at}
-use Rattle.cover.specs.declared.cover.Cover.{Cover}
+use Rattle.cover.specs.declared.cover.Place.{Place}
 use Rattle.judging.specs.Judging.{repeated_at, cover_on, covered_by, debit_verdict}
 use Rattle.judging.specs.StepLaws.{line_whole}
 use Rattle.judging.proofs.line.judge_debit.Goals as goal
@@ -20,14 +21,14 @@ told : (c : After-cover_on) → c.cover_on.result ≡ cover_on c.args.book.now (
 told c = c.cover_on.ensures ∙ ap (cover_on _) c.tif_line.ensures
 
 -- once no earlier line agrees, what covers the line decides
-decides : (c : After-cover_on) (cover : Cover) → c.cover_on.result ≡ cover
+decides : (c : After-cover_on) (cover : Option Place) → c.cover_on.result ≡ cover
     → let a = c.args in covered_by cover ≡ debit_verdict (repeated_at a.tif.now a.k) (cover_on a.book.now (line_at a.tif.now a.k))
 decides c cover is =
     let e = sym c.is_repeated.ensures ∙ c.if-is_repeated.false in
     ap covered_by (sym is ∙ told c) ∙ sym (rw e)
 
-pub returns-in-At : goal.returns-in-At
-returns-in-At c = decides (goal.at.returns-in-At c).After-cover_on _ c.in-At.is
+pub returns-in-Some : goal.returns-in-Some
+returns-in-Some c = decides (goal.at.returns-in-Some c).After-cover_on _ c.in-Some.is
 
-pub returns-in-Nothing : goal.returns-in-Nothing
-returns-in-Nothing c = decides (goal.at.returns-in-Nothing c).After-cover_on Cover.Nothing (cc)
+pub returns-in-None : goal.returns-in-None
+returns-in-None c = decides (goal.at.returns-in-None c).After-cover_on None (cc)

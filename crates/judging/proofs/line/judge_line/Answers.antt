@@ -3,10 +3,10 @@ use mathlib.Core.Bool.{Bool}
 use mathlib.Core.List.{List}
 use Prim.Native.Nat.{ℕ}
 use lib.ListN.{length}
+use Rattle.std.proofs.Common.{Ok}
 use Rattle.passage.specs.Passage.{line_width}
 use Rattle.tst.specs.Stations.{is_known_station}
 use Rattle.verdicts.specs.LineTests.{test_line}
-use Rattle.verdicts.specs.declared.line_tests.LineTest.{LineTest}
 use Rattle.judging.specs.Judging.{judging, test_on}
 use Rattle.judging.specs.StepLaws.{line_whole}
 use Rattle.judging.proofs.JudgedLaws.{fails_judged, passes_judged}
@@ -32,11 +32,11 @@ told c =
     ∙ ap (λ (known : Bool). test_line a.side a.sender.now known c.tif_line-line.result.now) c.is_known_station-known.ensures
     ∙ ap (λ (line : List ℕ). test_line a.side a.sender.now (is_known_station a.tst.now line) line) c.tif_line-line.ensures
 
-pub returns-in-Fails : goal.returns-in-Fails
-returns-in-Fails c = fails_judged _ _ _ _ (sym (told (goal.at.returns-in-Fails c).After-test_line) ∙ c.in-Fails.is)
+pub returns-in-Err : goal.returns-in-Err
+returns-in-Err c = fails_judged _ _ _ _ (sym (told (goal.at.returns-in-Err c).After-test_line) ∙ c.in-Err.is)
 
-pub returns-in-Passes : goal.returns-in-Passes
-returns-in-Passes c =
+pub returns-in-Ok : goal.returns-in-Ok
+returns-in-Ok c =
     let a = c.args in
-    let e : test_on (judging a.side a.sender.now a.book.now a.debits.now a.tif.now a.tst.now) a.k ≡ LineTest.Passes = sym (told (goal.at.returns-in-Passes c).After-test_line) ∙ (cc) in
+    let e : test_on (judging a.side a.sender.now a.book.now a.debits.now a.tif.now a.tst.now) a.k ≡ Ok tt = sym (told (goal.at.returns-in-Ok c).After-test_line) ∙ c.in-Ok.is in
     passes_judged _ _ _ _ _ e c.judge_passed.ensures

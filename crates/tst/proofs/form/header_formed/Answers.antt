@@ -46,5 +46,5 @@ returns-in_default c =
 pub returns : goal.returns
 unfolding header_formed
 returns c =
-    let is = read_good _ _ (sym (records_read (goal.at.returns c).After-read_digits) ∙ c.in-Value.is) in
-    rw (begins (goal.at.returns c).Else-header-ne48, versioned (goal.at.returns c).Else-not-is_same, is.0, ← is.1) c.equals.ensures
+    let is = read_good _ _ (sym (records_read (goal.at.returns c).After-read_digits) ∙ c.in-Some.is) in
+    rw (begins (goal.at.returns c).Else-header-ne48, versioned (goal.at.returns c).Else-not-is_same, is.0, ← is.1) c.eq.ensures
