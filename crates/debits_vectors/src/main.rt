@@ -1,7 +1,7 @@
 // Runs the form of open debits and the taking of debits over cases from standard input, and prints one line for each.
 #![tactic(auto)]
 
-ghost use Rattle.std.specs.Prelude.{◌≤◌};
+ghost use Rattle.std.specs.Prelude.{◌*◌, ◌≤◌, length, IfOk, IfSome};
 
 use debits::{debits_sound, take_debit};
 use frames::{print_line_feed, print_marks, print_number, read_part, run_cases};
@@ -23,42 +23,62 @@ struct Held {
     ghost few: { count ≤ 40 },
 }
 
+// Debits and marks: whether they are of the right form. As many are held if so, and otherwise none.
+fn run_form(
+    from: &mut impl Read,
+    to: &mut impl Write,
+    debits: &mut [u8],
+    marks: &mut [u8],
+) -> io::Result<Option<usize>>
+    ensures { IfOk result (λ held. IfSome held (λ count. count ≤ length marks.new)) }
+{
+    let Some(size) = read_part(from, debits)? else {
+        return Ok(None);
+    };
+    let Some(count) = read_part(from, marks)? else {
+        return Ok(None);
+    };
+    let sound = debits_sound(&debits[0..size], &marks[0..count]);
+    print_number(to, u64::from(sound))?;
+    Ok(Some(if sound { count } else { 0 }))
+}
+
+// A credit: the number of the debit that it takes of those held, 0 for none.
+fn run_credit(
+    from: &mut impl Read,
+    to: &mut impl Write,
+    debits: &[u8],
+    marks: &mut [u8],
+    count: usize,
+) -> io::Result<bool>
+    requires { (count * 810 ≤ length debits.now) × (count ≤ length marks.old) }
+{
+    let mut credit = [0u8; WIDTH];
+    if read_part(from, &mut credit)? != Some(WIDTH) {
+        return Ok(false);
+    }
+    let taken = take_debit(&debits[0..count * WIDTH], &mut marks[0..count], &credit);
+    print_number(to, taken.unwrap_or(0) as u64)?;
+    Ok(true)
+}
+
 impl Held {
-    // Debits and marks: whether they are of the right form. They are held if so, and otherwise none are.
     fn run_form(&mut self, from: &mut impl Read, to: &mut impl Write) -> io::Result<bool> {
-        let Some(size) = read_part(from, &mut self.debits)? else {
+        let Some(count) = run_form(from, to, &mut self.debits, &mut self.marks)? else {
             return Ok(false);
         };
-        let Some(count) = read_part(from, &mut self.marks)? else {
-            return Ok(false);
-        };
-        let sound = debits_sound(&self.debits[0..size], &self.marks[0..count]);
-        self.count = if sound { count } else { 0 };
-        print_number(to, u64::from(sound))?;
+        self.count = count;
         Ok(true)
     }
 
-    // A credit: the number of the debit that it takes, 0 for none.
     fn run_credit(&mut self, from: &mut impl Read, to: &mut impl Write) -> io::Result<bool> {
-        let mut credit = [0u8; WIDTH];
-        if read_part(from, &mut credit)? != Some(WIDTH) {
-            return Ok(false);
-        }
         let count = self.count;
-        let size = count * WIDTH;
-        let taken = take_debit(
-            &self.debits[0..size],
-            &mut self.marks[0..count],
-            &credit,
-        );
-        print_number(to, taken.unwrap_or(0) as u64)?;
-        Ok(true)
+        run_credit(from, to, &self.debits, &mut self.marks, count)
     }
 
     // The marks as they stand.
     fn run_marks(&self, to: &mut impl Write) -> io::Result<bool> {
-        let count = self.count;
-        print_marks(to, &self.marks[0..count])?;
+        print_marks(to, &self.marks[0..self.count])?;
         Ok(true)
     }
 
