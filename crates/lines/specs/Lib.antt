@@ -22,3 +22,4 @@ pub mod Rows
 pub mod RowsLaws
 pub mod Found
 pub mod OverRange
+pub mod OverChunks
