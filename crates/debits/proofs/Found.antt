@@ -3,7 +3,7 @@ use Rattle.std.specs.Prelude.{◌≡◌, Bool, true, false, cond, List, ℕ, ◌
 use Rattle.std.proofs.Common.{refl, subst, sym}
 use Rattle.lines.specs.Below.{some_below, first_below}
 use Rattle.lines.specs.BelowLaws.{first_is, first_none}
-use Rattle.lines.specs.OverRange.{found_below}
+use Rattle.lines.specs.Found.{found_below}
 use Rattle.debits.specs.Taking.{free_for, place_taken}
 
 module _ (debits marks credit : List ℕ) where
