@@ -34,7 +34,7 @@ pub fn agreement_of(book: &[u8], pan: &[u8]) -> Option<usize>
 }
 
 // Whether period j of the body at `at` starts after the moment.
-#[tactic(auto, using(book::specs::LayoutLaws::period_length), unfolding(crate::specs::Rising::after, crate::specs::Rising::start_of))]
+#[tactic(auto, using(book::specs::LayoutLaws::period_length, book::specs::LayoutLaws::start_length), unfolding(crate::specs::Rising::after, crate::specs::Rising::start_of))]
 fn starts_after(book: &[u8], at: usize, j: usize, moment: &[u8]) -> bool
     requires { (period_end width at j ≤ length book.now) × (length moment.now ≡ 14) }
     ensures { result ≡ after (start_of width book.now at) moment.now j }
