@@ -27,17 +27,13 @@ fn mix_text(h: usize, text: &[u8]) -> usize
 }
 
 // The hash of the texts that the spans of the line hold.
-pub fn hash_line(line: &[u8], spans: &[usize]) -> usize
+pub fn hash_line(line: &[u8], spans: &[Columns]) -> usize
     requires { spans_in (length line.now) spans.now ≡ true }
     ensures { Hashed spans.now line.now result }
 {
     let mut h = 0;
-    for m in 0..spans.len() / 2 {
-        let span = Columns {
-            from: spans[m * 2],
-            to: spans[m * 2 + 1],
-        };
-        h = mix_text(h, field(line, span));
+    for &columns in spans {
+        h = mix_text(h, field(line, columns));
     }
     // The last byte reaches the upper bits only when it is mixed once more.
     mix(h, 0) / 1048576 % 4096

@@ -6,7 +6,7 @@ ghost use Rattle.cover.specs.Pans.{pan_span, PansIndexed};
 
 use book::agreements_of;
 use chains::{Index, Rows, Sought, index_lines, last_agreeing};
-use lines::Layout;
+use lines::{Columns, Layout};
 
 // The entries of a book.
 const ENTRIES: Layout = Layout {
@@ -16,7 +16,7 @@ const ENTRIES: Layout = Layout {
 };
 
 // The PAN of an entry, and all of a PAN that is asked for.
-const PAN: [usize; 2] = [1, 19];
+const PAN: [Columns; 1] = [Columns { from: 1, to: 19 }];
 
 // The entries of a book, by their PANs.
 fn entries(book: &[u8]) -> Rows<'_>

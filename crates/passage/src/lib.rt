@@ -39,7 +39,20 @@ pub const EMISSION: Columns = Columns { from: 296, to: 297 };
 pub const TARIFF_CLASS: Columns = Columns { from: 298, to: 299 };
 
 // What two lines of one file must not share (L6): type and PAN, exit moment, actor, station and lane, detected plate and nation.
-pub const REPEAT_SPANS: [usize; 10] = [2, 22, 61, 74, 77, 82, 84, 91, 252, 263];
+pub const REPEAT_SPANS: [Columns; 5] = [
+    Columns { from: 2, to: 22 },
+    Columns { from: 61, to: 74 },
+    Columns { from: 77, to: 82 },
+    Columns { from: 84, to: 91 },
+    Columns { from: 252, to: 263 },
+];
 
 // What a debit and its credit share (L8): PAN, exit moment, actor, station and lane, detected plate and nation, amount with VAT.
-pub const CREDIT_SPANS: [usize; 12] = [4, 22, 61, 74, 77, 82, 84, 91, 252, 263, 137, 147];
+pub const CREDIT_SPANS: [Columns; 6] = [
+    Columns { from: 4, to: 22 },
+    Columns { from: 61, to: 74 },
+    Columns { from: 77, to: 82 },
+    Columns { from: 84, to: 91 },
+    Columns { from: 252, to: 263 },
+    Columns { from: 137, to: 147 },
+];
