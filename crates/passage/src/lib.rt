@@ -38,21 +38,28 @@ pub const EMISSION: Columns = Columns { from: 296, to: 297 };
 
 pub const TARIFF_CLASS: Columns = Columns { from: 298, to: 299 };
 
+// Fields that stand side by side, compared as one text.
+const TYPE_AND_PAN: Columns = Columns { from: 2, to: 22 };
+
+const STATION_AND_LANE: Columns = Columns { from: 84, to: 91 };
+
+const DETECTED_VEHICLE: Columns = Columns { from: 252, to: 263 };
+
 // What two lines of one file must not share (L6): type and PAN, exit moment, actor, station and lane, detected plate and nation.
 pub const REPEAT_SPANS: [Columns; 5] = [
-    Columns { from: 2, to: 22 },
-    Columns { from: 61, to: 74 },
-    Columns { from: 77, to: 82 },
-    Columns { from: 84, to: 91 },
-    Columns { from: 252, to: 263 },
+    TYPE_AND_PAN,
+    EXIT_MOMENT,
+    EXIT_ACTOR,
+    STATION_AND_LANE,
+    DETECTED_VEHICLE,
 ];
 
 // What a debit and its credit share (L8): PAN, exit moment, actor, station and lane, detected plate and nation, amount with VAT.
 pub const CREDIT_SPANS: [Columns; 6] = [
-    Columns { from: 4, to: 22 },
-    Columns { from: 61, to: 74 },
-    Columns { from: 77, to: 82 },
-    Columns { from: 84, to: 91 },
-    Columns { from: 252, to: 263 },
-    Columns { from: 137, to: 147 },
+    PAN,
+    EXIT_MOMENT,
+    EXIT_ACTOR,
+    STATION_AND_LANE,
+    DETECTED_VEHICLE,
+    GROSS_AMOUNT,
 ];

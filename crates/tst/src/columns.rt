@@ -20,15 +20,7 @@ pub const STATION: Columns = Columns { from: 61, to: 64 };
 pub const LANE: Columns = Columns { from: 117, to: 120 };
 
 // What no two lines of a table share: actor, station and lane.
-pub const STATION_SPANS: [Columns; 3] = [
-    Columns { from: 4, to: 9 },
-    Columns { from: 61, to: 64 },
-    Columns { from: 117, to: 120 },
-];
+pub const STATION_SPANS: [Columns; 3] = [ACTOR, STATION, LANE];
 
 // Exit actor, station and lane of a TIF's line.
-pub const EXIT_SPANS: [Columns; 3] = [
-    Columns { from: 77, to: 82 },
-    Columns { from: 84, to: 87 },
-    Columns { from: 88, to: 91 },
-];
+pub const EXIT_SPANS: [Columns; 3] = [passage::EXIT_ACTOR, passage::STATION, passage::LANE];
