@@ -104,8 +104,5 @@ pub fn sums_told(s: Summary) -> TicSums
 pub fn is_too_small(s: Summary, room: usize, size: usize) -> bool
     ensures { result ≡ too_small s room size }
 {
-    if size < s.length {
-        return true;
-    }
-    room < s.lines
+    size < s.length || room < s.lines
 }
