@@ -10,8 +10,8 @@ fn card_length(lent: bool) -> usize
     if lent { 18 } else { 16 }
 }
 
-#[tactic(auto, using(lines::specs::Tests::tests), unfolding(crate::specs::Card::is_card))]
 // Whether the card has a code of two digits or capitals for each verdict in use.
+#[tactic(auto, using(lines::specs::Tests::tests), unfolding(crate::specs::Card::is_card))]
 pub fn is_card(card: &[u8], lent: bool) -> bool
     ensures { result ≡ is_card lent card.now }
 {
