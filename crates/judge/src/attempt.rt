@@ -39,14 +39,7 @@ fn judge_all(inputs: Inputs, marks: &[u8], mine: &mut [u8; 9999], n: usize, word
 }
 
 // Writes the marks and the TIC of a judged file, once nothing can be refused any more.
-fn commit(
-    inputs: Inputs,
-    words: &[u64],
-    s: Summary,
-    mine: &[u8],
-    marks: &mut [u8],
-    out: &mut [u8],
-)
+fn commit(inputs: Inputs, words: &[u64], s: Summary, mine: &[u8], marks: &mut [u8], out: &mut [u8])
     requires { Committable inputs.name.now inputs.received.now inputs.card.now inputs.tif.now words.now s mine.now marks.old out.old }
     ensures { Committed inputs.entry.name.now inputs.entry.received.now inputs.entry.card.now inputs.entry.tif.now words.now s mine.now out.old marks.new out.new }
 {

@@ -7,12 +7,7 @@ use answers::{Answer, Inputs};
 use verdicts::Record;
 
 // Judges a TIF against the book and the open debits: the answer, and the TIC, the records and the marks as they are to be kept.
-pub fn judge(
-    inputs: Inputs,
-    marks: &mut [u8],
-    records: &mut [Record],
-    out: &mut [u8],
-) -> Answer
+pub fn judge(inputs: Inputs, marks: &mut [u8], records: &mut [Record], out: &mut [u8]) -> Answer
     ensures { Judged (call_with inputs.entry marks.old (length records.old) out.old) records.old result marks.new records.new out.new }
 {
     let mut words = [0u64; 9999];
