@@ -7,7 +7,7 @@ ghost use Rattle.answers.specs.Listing.{number_at, refused_at, refused_before, r
 use crate::card::code_of;
 use crate::inputs::Inputs;
 use lines::field;
-use tic_text::{TicHead, TicSums, put_footer, put_header, put_listed};
+use tic_text::{Received, TicHead, TicSums, put_footer, put_header, put_listed};
 use tif::{NAME_RECEIVER, NAME_STEM, tif_line};
 
 // The paper's number of the verdict on line k.
@@ -52,14 +52,12 @@ pub fn put_tic(inputs: Inputs, words: &[u64], head: TicHead, sums: TicSums, out:
     requires { TicRoom inputs.name.now inputs.received.now inputs.card.now inputs.tif.now words.now head out.old }
     ensures { Put (tic_text (tic_of inputs.entry.name.now inputs.entry.received.now inputs.entry.card.now inputs.entry.tif.now words.now head sums)) 0 out.old result out.new }
 {
-    let mid = put_header(
-        out,
-        0,
-        field(inputs.name, NAME_RECEIVER),
-        field(inputs.name, NAME_STEM),
-        inputs.received,
-        head,
-    );
+    let told = Received {
+        receiver: field(inputs.name, NAME_RECEIVER),
+        stem: field(inputs.name, NAME_STEM),
+        moment: inputs.received,
+    };
+    let mid = put_header(out, 0, told, head);
     let mid = put_lines(inputs, words, out, mid);
     put_footer(out, mid, sums)
 }
