@@ -15,17 +15,11 @@ pub fn free_for(debits: &[u8], marks: &[u8], credit: &[u8], j: usize) -> bool
 }
 
 // The place of the first unmarked debit that agrees with the credit, counted from 0.
-#[tactic(auto, using(lines::specs::BelowLaws::some_zero, lines::specs::BelowLaws::some_more, lines::specs::BelowLaws::first_hit, lines::specs::BelowLaws::first_none), unfolding(crate::specs::Taking::place_taken))]
 fn first_free(debits: &[u8], marks: &[u8], credit: &[u8]) -> Option<usize>
     requires { Lent debits.now marks.now credit.now }
     ensures { MatchOption result (place_taken debits.now marks.now credit.now ≡ length marks.now) (λ j. (place_taken debits.now marks.now credit.now ≡ j) × (j < length marks.now)) }
 {
-    for j in 0..marks.len() {
-        if free_for(debits, marks, credit, j) {
-            return Some(j);
-        }
-    }
-    None
+    (0..marks.len()).find(|j| free_for(debits, marks, credit, *j))
 }
 
 // The credit takes the first unmarked debit that agrees with it, and that debit's mark becomes 1. The answer is that debit's number, counted from 1.
