@@ -3,4 +3,3 @@ pub mod Balance
 pub mod SequenceLaws
 pub mod Demand3Laws
 pub mod Demand3
-mod Found
