@@ -43,7 +43,7 @@ fn end_form(end: &[u8], last: bool) -> Result<(), MomentFault>
     check_moment(end)
 }
 
-// A period by itself; `last` says whether it is the last of its agreement.
+// A period by itself; `last` says whether it is the last of its agreement, as the definitions have it.
 #[tactic(auto, using(lines::specs::Tests::tests, crate::specs::LayoutLaws::start_length, crate::specs::LayoutLaws::end_length), unfolding(crate::specs::Form::period_form, lines::specs::FirstOf::first_of))]
 fn period_form(period: &[u8], last: bool) -> Result<(), PeriodFault>
     requires { length period.now ≡ width }

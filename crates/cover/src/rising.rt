@@ -58,7 +58,7 @@ fn period_in_time(book: &[u8], at: usize, moment: &[u8]) -> Option<usize>
     None
 }
 
-// The period of agreement i that covers where a PAN has named it: no plate is compared.
+// The period of agreement i that covers where a PAN has named it: no plate is compared. It is `cover_in` with another search; a parameter for the search would need a contract longer than these lines.
 pub fn cover_in_time(book: &[u8], i: usize, moment: &[u8]) -> Option<Place>
     requires { Ready width book.now moment.now × (i < agreements book.now) }
     ensures { (plate nation : List ℕ) → result ≡ cover_in width book.now (asked true moment.now plate nation) i }
