@@ -1,9 +1,18 @@
 -- The answers of a call, with their numbers and codes on paper. Assumes nothing.
-use Rattle.std.specs.Prelude.{ℕ}
+use Rattle.std.specs.Prelude.{ℕ, Result}
 use Rattle.answers.specs.declared.answer.CallFault.{CallFault}
 use Rattle.answers.specs.declared.answer.CallFault.TheVariants.{FileName, ReceptionMoment, CodeCard, ReceivedNames, Book, OpenDebits, StationTable, Room}
 use Rattle.answers.specs.declared.answer.FileAnswer.{FileAnswer}
 use Rattle.answers.specs.declared.answer.FileAnswer.TheVariants.{Accepted, PartlyAccepted, AlreadyReceived, CountsDiffer, TotalDiffers, OutOfForm}
+use Rattle.answers.specs.declared.answer.Summary.{Summary}
+
+-- what a check of the call finds: nothing, or what is wrong
+abbrev pub CallCheck : Type 0
+CallCheck = Result (Unit {0}) CallFault
+
+-- what a call is answered: what is told of its file, or what is wrong with it
+abbrev pub Answer : Type 0
+Answer = Result Summary CallFault
 
 -- E1 to E8
 abbrev pub fault_number : CallFault → ℕ

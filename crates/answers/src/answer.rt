@@ -17,13 +17,6 @@ pub enum CallFault {
     Room,
 }
 
-// What a check of the call finds.
-#[derive(Clone, Copy)]
-pub enum CallCheck {
-    Faulty(CallFault),
-    Sound,
-}
-
 // What becomes of the file: 00 to 05.
 #[derive(Clone, Copy)]
 pub enum FileAnswer {
@@ -49,11 +42,8 @@ pub struct Summary {
     pub length: usize,
 }
 
-#[derive(Clone, Copy)]
-pub enum Answer {
-    Refused(CallFault),
-    Answered(Summary),
-}
+// What a call is answered.
+pub type Answer = Result<Summary, CallFault>;
 
 // E1 to E8 by their number.
 pub fn fault_number(fault: CallFault) -> u64

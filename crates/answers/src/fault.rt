@@ -1,7 +1,7 @@
 ghost use Rattle.std.specs.Prelude.{◌≡◌};
 ghost use Rattle.answers.specs.Fault.{check_call, check_lent};
 
-use crate::answer::{CallCheck, CallFault};
+use crate::answer::CallFault;
 use crate::card::is_card;
 use book::check_book;
 use debits::debits_sound;
@@ -11,22 +11,23 @@ use tst::{is_lent, table_sound};
 
 // E5, E6 and E8.
 #[tactic(auto, using(lines::specs::Tests::tests), unfolding(crate::specs::Fault::check_lent, lines::specs::FirstOf::first_of))]
-fn check_lent(book: &[u8], debits: &[u8], marks: &[u8], tst: &[u8]) -> CallCheck
+fn check_lent(book: &[u8], debits: &[u8], marks: &[u8], tst: &[u8]) -> Result<(), CallFault>
     ensures { result ≡ check_lent book.now debits.now marks.now tst.now }
 {
     if !check_book(book) {
-        return CallCheck::Faulty(CallFault::Book);
+        return Err(CallFault::Book);
     }
     if !debits_sound(debits, marks) {
-        return CallCheck::Faulty(CallFault::OpenDebits);
+        return Err(CallFault::OpenDebits);
     }
     if !table_sound(tst) {
-        return CallCheck::Faulty(CallFault::StationTable);
+        return Err(CallFault::StationTable);
     }
-    CallCheck::Sound
+    Ok(())
 }
 
 // E1 to E6 and then E8, in order.
+#[tactic(auto, using(lines::specs::Tests::tests), unfolding(crate::specs::Fault::check_call, lines::specs::FirstOf::first_of))]
 pub fn check_call(
     name: &[u8],
     received: &[u8],
@@ -36,20 +37,20 @@ pub fn check_call(
     debits: &[u8],
     marks: &[u8],
     tst: &[u8],
-) -> CallCheck
+) -> Result<(), CallFault>
     ensures { result ≡ check_call name.now received.now card.now names.now book.now debits.now marks.now tst.now }
 {
     if !is_name(name) {
-        return CallCheck::Faulty(CallFault::FileName);
+        return Err(CallFault::FileName);
     }
     if !is_moment(received) {
-        return CallCheck::Faulty(CallFault::ReceptionMoment);
+        return Err(CallFault::ReceptionMoment);
     }
     if !is_card(card, is_lent(tst)) {
-        return CallCheck::Faulty(CallFault::CodeCard);
+        return Err(CallFault::CodeCard);
     }
     if !names_whole(names) {
-        return CallCheck::Faulty(CallFault::ReceivedNames);
+        return Err(CallFault::ReceivedNames);
     }
     check_lent(book, debits, marks, tst)
 }

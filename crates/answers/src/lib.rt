@@ -7,7 +7,7 @@ mod fault;
 mod listing;
 mod outcome;
 
-pub use answer::{Answer, CallCheck, CallFault, FileAnswer, Summary, answer_code, fault_number};
+pub use answer::{Answer, CallFault, FileAnswer, Summary, answer_code, fault_number};
 pub use fault::check_call;
 pub use listing::put_tic;
 pub use outcome::{file_answer, head_of, is_too_small, summarize, summarize_refused, sums_told};

@@ -1,5 +1,5 @@
 -- The form of an agreement book (E5), on any bytes. The width `w` of a period is a parameter. Assumes nothing.
-use Rattle.std.specs.Prelude.{◌≡◌, Bool, true, false, not, ◌&&◌, ◌||◌, cond, List, [], ◌∷◌, ℕ, ◌+◌, ◌-◌, ◌≤◌, ◌<◌, length, eqb, leb, Ok}
+use Rattle.std.specs.Prelude.{◌≡◌, Bool, true, not, ◌&&◌, ◌||◌, cond, List, [], ◌∷◌, ℕ, ◌+◌, ◌-◌, ◌≤◌, ◌<◌, length, eqb, leb, Result, Ok, Err, is_ok}
 use Rattle.lines.specs.Below.{all_below}
 use Rattle.lines.specs.Class.{all_of, filled_with}
 use Rattle.lines.specs.FirstOf.{Row, ◌⇒◌, first_of}
@@ -9,8 +9,8 @@ use Rattle.lines.specs.declared.class.Class.TheVariants.{Digit, Only}
 use Rattle.moment.specs.Moment.{Checked, is_real, check_moment}
 use Rattle.plate.specs.Plate.{plate_in_book}
 use Rattle.book.specs.Layout.{agreements, entry_layout, pan_of, offset_of, periods_at, period_of, body_end, body_place, plate_part, nation_part, start_part, end_part}
-use Rattle.book.specs.declared.form.PeriodForm.{PeriodForm}
-use Rattle.book.specs.declared.form.PeriodForm.TheVariants.{InForm, WrongMoment, OtherFault}
+use Rattle.book.specs.declared.form.PeriodFault.{PeriodFault}
+use Rattle.book.specs.declared.form.PeriodFault.TheVariants.{WrongMoment, OtherFault}
 
 -- no book has more bytes, no book more agreements, no agreement more periods
 abbrev pub most_bytes : ℕ
@@ -26,22 +26,29 @@ most_periods = 64
 unfoldable pub end_form : Bool → List ℕ → Checked
 end_form last end = cond (last && all_of (Only 57) end) (Ok tt) (check_moment end)
 
+-- in form, or what is wrong with it
+abbrev pub PeriodForm : Type 0
+PeriodForm = Result (Unit {0}) PeriodFault
+
+-- a moment that is not real goes with what is wrong with it
+abbrev pub wrong_moment : Checked → PeriodForm
+wrong_moment (Ok t) = Ok tt
+wrong_moment (Err fault) = Err (WrongMoment fault)
+
 -- plate and nation as a book has them, a real start, an end, and the start before the end
 abbrev pub period_faults : Bool → List ℕ → List (Row PeriodForm)
 period_faults last period =
-    (not (plate_in_book (plate_part period) (nation_part period)) ⇒ OtherFault)
-    ∷ (not (is_real (check_moment (start_part period))) ⇒ WrongMoment (check_moment (start_part period)))
-    ∷ (not (is_real (end_form last (end_part period))) ⇒ WrongMoment (end_form last (end_part period)))
-    ∷ (not (before (start_part period) (end_part period)) ⇒ OtherFault)
+    (not (plate_in_book (plate_part period) (nation_part period)) ⇒ Err OtherFault)
+    ∷ (not (is_real (check_moment (start_part period))) ⇒ wrong_moment (check_moment (start_part period)))
+    ∷ (not (is_real (end_form last (end_part period))) ⇒ wrong_moment (end_form last (end_part period)))
+    ∷ (not (before (start_part period) (end_part period)) ⇒ Err OtherFault)
     ∷ []
 
 unfoldable pub period_form : Bool → List ℕ → PeriodForm
-period_form last period = first_of (period_faults last period) InForm
+period_form last period = first_of (period_faults last period) (Ok tt)
 
 abbrev pub in_form : PeriodForm → Bool
-in_form InForm = true
-in_form (WrongMoment m) = false
-in_form OtherFault = false
+in_form form = is_ok form
 
 -- a period starts at or after the end before it
 unfoldable pub follows_at : ℕ → List ℕ → ℕ → ℕ → Bool

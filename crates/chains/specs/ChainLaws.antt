@@ -12,6 +12,7 @@ use Rattle.chains.specs.Last.{last_below}
 use Rattle.chains.specs.LastLaws.{last_le, last_is, last_skips, last_steps}
 use Rattle.chains.specs.Hash.{hash_of, Hashed}
 use Rattle.chains.specs.HashLaws.{agree_hash}
+use Rattle.chains.specs.declared.indexing.Index.{Index}
 use Rattle.chains.specs.Index.{Ruled, Asked, agrees_with, agrees_here, repeated_at, hash_at, hash_is, Linked, Indexed}
 use Rattle.chains.specs.IndexLaws.{ruled_fewer, linked_fewer, line_spanned}
 use Rattle.chains.specs.Chain.{Walk, OnChain}
@@ -26,7 +27,7 @@ module _ (l : Layout) (file spans ts other : List ℕ) where
   agrees = agrees_with l file spans ts other
 
   -- only a line with the hash agrees
-  only_hash : span_count spans ≡ span_count ts → (j : ℕ) → agrees j ≡ true → sought j ≡ true
+  pub only_hash : span_count spans ≡ span_count ts → (j : ℕ) → agrees j ≡ true → sought j ≡ true
   unfolding agrees_with hash_is hash_at
   only_hash paired j e = eq-eqb _ _ (agree_hash spans (line_of l file j) ts other e paired)
 
@@ -47,9 +48,9 @@ module _ (l : Layout) (file spans ts other : List ℕ) where
   found_from k start q e = ap (λ (i : ℕ). some_below i agrees) e ∙ last_skips sought agrees (only_hash q.paired) k
 
   -- the head of a hash is the last line with it
-  pub head_start : (heads prev : List ℕ) (n h start : ℕ) → Indexed l file spans n heads prev → Hashed ts other h → start ≡ get_or heads h 0
+  pub head_start : (index : Index) (n h start : ℕ) → Indexed l file spans n index → Hashed ts other h → start ≡ get_or index.heads h 0
       → start ≡ last_below n sought
-  head_start heads prev n h start x g e = e ∙ x.last h g.small ∙ ap (λ (i : ℕ). last_below n (hash_is l file spans i)) g.value
+  head_start index n h start x g e = e ∙ x.last h g.small ∙ ap (λ (i : ℕ). last_below n (hash_is l file spans i)) g.value
 
   -- ---- on the way
   module _ (prev : List ℕ) (start : ℕ) (w : Walk l file spans start prev ts other) where
@@ -58,7 +59,7 @@ module _ (l : Layout) (file spans ts other : List ℕ) where
 
     module _ (link : ℕ) (o : OnChain l file spans start ts other link) (h : 0 < link) where
       -- a link is stated by the hash of its own line, which is the one that is looked for
-      chain_link : get_or prev (link - 1) 0 ≡ last_below (link - 1) sought
+      pub chain_link : get_or prev (link - 1) 0 ≡ last_below (link - 1) sought
       unfolding hash_is
       chain_link =
           w.linked.links (link - 1) (omega (arith, o.low))

@@ -6,6 +6,7 @@ use Rattle.lines.specs.Spans.{span_count, spans_in, agree_across, agree_on}
 use Rattle.lines.specs.declared.rows.Layout.{Layout}
 use Rattle.chains.specs.Last.{last_below}
 use Rattle.chains.specs.Hash.{hash_of}
+use Rattle.chains.specs.declared.indexing.Index.{Index}
 
 -- ---- what is asked
 -- line k, by the spans, agrees with the line `other` by the spans ts
@@ -52,16 +53,16 @@ hash_at l file spans j = hash_of spans (line_of l file j)
 unfoldable pub hash_is : Layout → List ℕ → List ℕ → ℕ → ℕ → Bool
 hash_is l file spans h j = eqb (hash_at l file spans j) h
 
--- prev[j] is the nearest line before j with j's hash, for each j below k
+-- links[j] is the nearest line before j with j's hash, for each j below k
 pub record Linked (l : Layout) (file spans : List ℕ) (k : ℕ) (prev : List ℕ) : Type 0 where
   pub links : (j : ℕ) → j < k → get_or prev j 0 ≡ last_below j (hash_is l file spans (hash_at l file spans j))
 
 -- heads[h] is the last of the first k lines with the hash h, and these are linked
-pub record Indexed (l : Layout) (file spans : List ℕ) (k : ℕ) (heads prev : List ℕ) : Type 0 where
-  pub last : (h : ℕ) → h < 4096 → get_or heads h 0 ≡ last_below k (hash_is l file spans h)
-  pub linked : Linked l file spans k prev
+pub record Indexed (l : Layout) (file spans : List ℕ) (k : ℕ) (index : Index) : Type 0 where
+  pub last : (h : ℕ) → h < 4096 → get_or index.heads h 0 ≡ last_below k (hash_is l file spans h)
+  pub linked : Linked l file spans k index.links
 
 -- line k put in front of its chain
-pub record Entered (l : Layout) (file spans : List ℕ) (k : ℕ) (heads prev heads' prev' : List ℕ) : Type 0 where
-  pub link : prev' ≡ set prev k (get_or heads (hash_at l file spans k) 0)
-  pub head : heads' ≡ set heads (hash_at l file spans k) (k + 1)
+pub record Entered (l : Layout) (file spans : List ℕ) (k : ℕ) (old new : Index) : Type 0 where
+  pub link : new.links ≡ set old.links k (get_or old.heads (hash_at l file spans k) 0)
+  pub head : new.heads ≡ set old.heads (hash_at l file spans k) (k + 1)

@@ -1,5 +1,5 @@
 -- The laws of the last number: at 0, at one more, and that a search may go from one such number to the one before. Assumes nothing.
-use Rattle.std.specs.Prelude.{◌≡◌, Bool, ◌||◌}
+use Rattle.std.specs.Prelude.{◌≡◌, Bool, ◌||◌, Some, None, is_some}
 use Rattle.std.proofs.Math.Path.{refl, sym, ap}
 use Rattle.std.proofs.Common.{◌∙◌, add-one, lt-ltb}
 use Rattle.std.proofs.Math.Bool.{true, false, cond}
@@ -10,7 +10,22 @@ use Rattle.std.proofs.Math.Dec.{ltb}
 use Rattle.lines.specs.Below.{some_below}
 use Rattle.lines.specs.BelowLaws.{some_suc}
 use Rattle.lines.specs.BoolLaws.{or_true_right}
-use Rattle.chains.specs.Last.{last_below}
+use Rattle.chains.specs.Last.{last_below, place_of, last_place}
+
+-- a place is one less than the number that names it
+pub place_back : (k j : ℕ) → k ≡ j + 1 → place_of k ≡ Some j
+unfolding place_of
+place_back zero j e = absurd (omega arith)
+place_back (suc k) j e = let s : k ≡ j = omega arith in ap (λ (i : ℕ). Some i) s
+
+pub place_none : place_of 0 ≡ None
+unfolding place_of
+place_none = refl
+
+place_there : (k : ℕ) → is_some (place_of k) ≡ ltb 0 k
+unfolding place_of
+place_there zero = refl
+place_there (suc k) = sym (lt-ltb 0 (suc k) (omega arith))
 
 module _ (p : ℕ → Bool) where
   pub last_zero : last_below 0 p ≡ 0
@@ -55,6 +70,10 @@ module _ (p : ℕ → Bool) where
       go true ih false = ih
       go false ih false = ih
 
+  -- and just there the last has a place
+  pub last_there : (k : ℕ) → is_some (last_place k p) ≡ some_below k p
+  last_there k = place_there (last_below k p) ∙ sym (last_some k)
+
 or_drop : (a b : Bool) → b ≡ false → (a || b) ≡ a
 or_drop true b e = refl
 or_drop false b e = e
@@ -81,3 +100,13 @@ module _ (p q : ℕ → Bool) (only : (j : ℕ) → q j ≡ true → p j ≡ tru
   -- where q fails at j, the last of p below j is where to go on
   pub last_steps : (j : ℕ) → q j ≡ false → some_below (last_below j p) q ≡ some_below (j + 1) q
   last_steps j e = last_skips j ∙ sym (some_suc q j ∙ or_drop (some_below j q) (q j) e)
+
+  -- the last of q is not above the last of p
+  pub last_within : (k : ℕ) → last_below (last_below k p) q ≡ last_below k q
+  unfolding last_below
+  last_within zero = refl
+  last_within (suc k) = go (last_within k) (p k) refl
+    where
+      go : last_below (last_below k p) q ≡ last_below k q → (b : Bool) → p k ≡ b → last_below (cond b (suc k) (last_below k p)) q ≡ last_below (suc k) q
+      go ih true e = refl
+      go ih false e = rw (neither k e) ih

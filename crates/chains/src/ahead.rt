@@ -4,22 +4,12 @@ ghost use Rattle.chains.specs.Hash.{hashes};
 
 use crate::hash::HASHES;
 
-pub fn link_of(x: u16) -> usize
-    ensures { result ≡ x }
-{
-    x as usize
-}
-
 // No number is in yet: each head leads past the last of n.
 pub fn clear_ahead(links: &mut [u16], n: usize)
     requires { (hashes ≤ length links.old) × (n < 65536) }
     ensures { (h : ℕ) → h < hashes → get_or links.new h 0 ≡ n }
 {
-    let mut i = 0;
-    while i < HASHES {
-        links[i] = n as u16;
-        i += 1;
-    }
+    links[..HASHES].fill(n as u16);
 }
 
 // Puts the number k, whose link stands in the slot `at`, in front of the chain of h.

@@ -7,12 +7,6 @@ use lines::{Columns, field};
 // How many hashes there are.
 pub const HASHES: usize = 4096;
 
-fn wide(x: u8) -> usize
-    ensures { (result ≡ x) × (result < 256) }
-{
-    x as usize
-}
-
 fn mix(h: usize, b: usize) -> usize
     requires { (h < 4294967296) × (b < 256) }
     ensures { (result ≡ mixed h b) × (result < 4294967296) }
@@ -20,15 +14,14 @@ fn mix(h: usize, b: usize) -> usize
     (h * 2654435761 + b + 1) % 4294967296
 }
 
+#[tactic(auto, using(crate::specs::HashLaws::bytes_zero, crate::specs::HashLaws::bytes_suc))]
 fn mix_text(h: usize, text: &[u8]) -> usize
     requires { h < 4294967296 }
     ensures { Mixed h text.now result }
 {
     let mut x = h;
-    let mut i = 0;
-    while i < text.len() {
-        x = mix(x, wide(text[i]));
-        i += 1;
+    for &b in text {
+        x = mix(x, usize::from(b));
     }
     x
 }
@@ -38,16 +31,13 @@ pub fn hash_line(line: &[u8], spans: &[usize]) -> usize
     requires { spans_in (length line.now) spans.now ≡ true }
     ensures { Hashed spans.now line.now result }
 {
-    let n = spans.len() / 2;
     let mut h = 0;
-    let mut m = 0;
-    while m < n {
+    for m in 0..spans.len() / 2 {
         let span = Columns {
             from: spans[m * 2],
             to: spans[m * 2 + 1],
         };
         h = mix_text(h, field(line, span));
-        m += 1;
     }
     // The last byte reaches the upper bits only when it is mixed once more.
     mix(h, 0) / 1048576 % 4096

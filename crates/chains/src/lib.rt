@@ -3,10 +3,10 @@
 
 mod ahead;
 mod hash;
-mod index;
+mod indexing;
 mod search;
 
-pub use ahead::{clear_ahead, enter_ahead, link_of};
+pub use ahead::{clear_ahead, enter_ahead};
 pub use hash::{HASHES, hash_line, hash_two};
-pub use index::{Heads, Links, index_lines};
-pub use search::{all_different, is_member, is_repeated, last_agreeing};
+pub use indexing::{Index, Rows, index_lines};
+pub use search::{Sought, all_different, is_member, is_repeated, last_agreeing};

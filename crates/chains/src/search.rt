@@ -1,142 +1,91 @@
 ghost use Rattle.std.specs.Prelude.{◌≡◌, ◌<◌};
-ghost use Rattle.lines.specs.Below.{some_below};
-ghost use Rattle.chains.specs.Last.{last_below};
+ghost use Rattle.chains.specs.Last.{last_place};
 ghost use Rattle.chains.specs.Index.{Ruled, Asked, Linked, Indexed, agrees_with, member_of, repeated_at, all_different};
 ghost use Rattle.chains.specs.Chain.{Walk};
 
-use crate::ahead::link_of;
 use crate::hash::hash_line;
-use crate::index::{Heads, Links, index_lines};
-use lines::{Layout, agree_across, line_of};
+use crate::indexing::{Index, Rows, index_lines};
+use lines::{agree_across, line_of};
 
-// Whether a line below `start` agrees with the line `other`. Only lines of the chain from `start` are looked at.
-fn walk(
-    layout: Layout,
-    file: &[u8],
-    spans: &[usize],
-    prev: &Links,
-    start: usize,
-    ts: &[usize],
-    other: &[u8],
-) -> bool
-    requires { Walk layout file.now spans.now start prev.now ts.now other.now }
-    ensures { result ≡ some_below start (agrees_with layout file.now spans.now ts.now other.now) }
+// What is looked for among the rows: a line, and the spans of it that are compared with theirs.
+#[derive(Clone, Copy)]
+pub struct Sought<'a> {
+    pub line: &'a [u8],
+    pub spans: &'a [usize],
+}
+
+// The last line below `start` that agrees with the sought one, counted from 0. Only lines of the chain from `start` are looked at.
+fn walk(rows: Rows, index: &Index, start: usize, sought: Sought) -> Option<usize>
+    requires { Walk rows.layout rows.file.now rows.spans.now start index.now.links sought.spans.now sought.line.now }
+    ensures { result ≡ last_place start (agrees_with rows.entry.layout rows.entry.file.now rows.entry.spans.now sought.entry.spans.now sought.entry.line.now) }
 {
     let mut link = start;
-    while link > 0 {
-        let j = link - 1;
-        if agree_across(spans, line_of(layout, file, j), ts, other) {
-            return true;
+    while let Some(j) = link.checked_sub(1) {
+        let line = line_of(rows.layout, rows.file, j);
+        if agree_across(rows.spans, line, sought.spans, sought.line) {
+            return Some(j);
         }
-        link = link_of(prev[j]);
+        link = usize::from(index.links[j]);
     }
-    false
+    None
 }
 
-// The last line below `start` that agrees with the line `other`, counted from 1; 0 where none does. Only lines of the chain from `start` are looked at.
-fn walk_to_last(
-    layout: Layout,
-    file: &[u8],
-    spans: &[usize],
-    prev: &Links,
-    start: usize,
-    ts: &[usize],
-    other: &[u8],
-) -> usize
-    requires { Walk layout file.now spans.now start prev.now ts.now other.now }
-    ensures { result ≡ last_below start (agrees_with layout file.now spans.now ts.now other.now) }
+// The last of the indexed rows that agrees with the sought line, counted from 0.
+pub fn last_agreeing(rows: Rows, index: &Index, sought: Sought) -> Option<usize>
+    requires ruled { Ruled rows.layout rows.file.now rows.spans.now rows.count }
+    requires indexed { Indexed rows.layout rows.file.now rows.spans.now rows.count index.now }
+    requires asked { Asked rows.spans.now sought.spans.now sought.line.now }
+    ensures { result ≡ last_place rows.entry.count (agrees_with rows.entry.layout rows.entry.file.now rows.entry.spans.now sought.entry.spans.now sought.entry.line.now) }
 {
-    let mut link = start;
-    while link != 0 {
-        let j = link - 1;
-        if agree_across(spans, line_of(layout, file, j), ts, other) {
-            return link;
-        }
-        link = link_of(prev[j]);
-    }
-    0
+    let h = hash_line(sought.line, sought.spans);
+    walk(rows, index, usize::from(index.heads[h]), sought)
 }
 
-// The last of n indexed lines that agrees, by its spans, with the line `other` by the spans ts, counted from 1; 0 where none does.
-pub fn last_agreeing(
-    layout: Layout,
-    file: &[u8],
-    spans: &[usize],
-    n: usize,
-    heads: &Heads,
-    prev: &Links,
-    ts: &[usize],
-    other: &[u8],
-) -> usize
-    requires ruled { Ruled layout file.now spans.now n }
-    requires indexed { Indexed layout file.now spans.now n heads.now prev.now }
-    requires asked { Asked spans.now ts.now other.now }
-    ensures { result ≡ last_below n (agrees_with layout file.now spans.now ts.now other.now) }
+// Whether one of the indexed rows agrees with the sought line.
+#[tactic(auto, using(crate::specs::LastLaws::last_there), unfolding(crate::specs::Index::member_of))]
+pub fn is_member(rows: Rows, index: &Index, sought: Sought) -> bool
+    requires ruled { Ruled rows.layout rows.file.now rows.spans.now rows.count }
+    requires indexed { Indexed rows.layout rows.file.now rows.spans.now rows.count index.now }
+    requires asked { Asked rows.spans.now sought.spans.now sought.line.now }
+    ensures { result ≡ member_of rows.entry.layout rows.entry.file.now rows.entry.spans.now rows.entry.count sought.entry.spans.now sought.entry.line.now }
 {
-    let h = hash_line(other, ts);
-    walk_to_last(layout, file, spans, prev, link_of(heads[h]), ts, other)
+    last_agreeing(rows, index, sought).is_some()
 }
 
-// Whether one of n indexed lines agrees, by its spans, with the line `other` by the spans ts.
-pub fn is_member(
-    layout: Layout,
-    file: &[u8],
-    spans: &[usize],
-    n: usize,
-    heads: &Heads,
-    prev: &Links,
-    ts: &[usize],
-    other: &[u8],
-) -> bool
-    requires ruled { Ruled layout file.now spans.now n }
-    requires indexed { Indexed layout file.now spans.now n heads.now prev.now }
-    requires asked { Asked spans.now ts.now other.now }
-    ensures { result ≡ member_of layout file.now spans.now n ts.now other.now }
+// Whether an earlier row agrees with row k.
+pub fn is_repeated(rows: Rows, index: &Index, k: usize) -> bool
+    requires ruled { Ruled rows.layout rows.file.now rows.spans.now rows.count }
+    requires linked { Linked rows.layout rows.file.now rows.spans.now rows.count index.now.links }
+    requires k_lt_n { k < rows.count }
+    ensures { result ≡ repeated_at rows.entry.layout rows.entry.file.now rows.entry.spans.now k }
 {
-    let h = hash_line(other, ts);
-    walk(layout, file, spans, prev, link_of(heads[h]), ts, other)
+    let sought = Sought {
+        line: line_of(rows.layout, rows.file, k),
+        spans: rows.spans,
+    };
+    walk(rows, index, usize::from(index.links[k]), sought).is_some()
 }
 
-// Whether an earlier line agrees with line k of n indexed lines.
-pub fn is_repeated(
-    layout: Layout,
-    file: &[u8],
-    spans: &[usize],
-    n: usize,
-    prev: &Links,
-    k: usize,
-) -> bool
-    requires ruled { Ruled layout file.now spans.now n }
-    requires linked { Linked layout file.now spans.now n prev.now }
-    requires k_lt_n { k < n }
-    ensures { result ≡ repeated_at layout file.now spans.now k }
+#[tactic(auto, using(lines::specs::BelowLaws::all_zero, lines::specs::BelowLaws::all_more, lines::specs::BelowLaws::all_fails), unfolding(crate::specs::Index::all_different, crate::specs::Index::fresh_at))]
+fn none_repeated(rows: Rows, index: &Index) -> bool
+    requires ruled { Ruled rows.layout rows.file.now rows.spans.now rows.count }
+    requires linked { Linked rows.layout rows.file.now rows.spans.now rows.count index.now.links }
+    ensures { result ≡ all_different rows.entry.layout rows.entry.file.now rows.entry.spans.now rows.entry.count }
 {
-    let line = line_of(layout, file, k);
-    walk(layout, file, spans, prev, link_of(prev[k]), spans, line)
-}
-
-fn none_repeated(layout: Layout, file: &[u8], spans: &[usize], n: usize, prev: &Links) -> bool
-    requires ruled { Ruled layout file.now spans.now n }
-    requires linked { Linked layout file.now spans.now n prev.now }
-    ensures { result ≡ all_different layout file.now spans.now n }
-{
-    let mut k = 0;
-    while k < n {
-        if is_repeated(layout, file, spans, n, prev, k) {
+    for k in 0..rows.count {
+        if is_repeated(rows, index, k) {
             return false;
         }
-        k += 1;
     }
     true
 }
 
-// Whether no two of the first n lines agree on the spans.
-pub fn all_different(layout: Layout, file: &[u8], spans: &[usize], n: usize) -> bool
-    requires { Ruled layout file.now spans.now n }
-    ensures { result ≡ all_different layout file.now spans.now n }
+// Whether no two of the rows agree.
+pub fn all_different(rows: Rows) -> bool
+    requires { Ruled rows.layout rows.file.now rows.spans.now rows.count }
+    ensures { result ≡ all_different rows.entry.layout rows.entry.file.now rows.entry.spans.now rows.entry.count }
 {
-    let mut heads = [0u16; 4096];
-    let mut prev = [0u16; 9999];
-    index_lines(layout, file, spans, n, &mut heads, &mut prev);
-    none_repeated(layout, file, spans, n, &prev)
+    let mut index = Index::new();
+    index_lines(rows, &mut index);
+    none_repeated(rows, &index)
 }

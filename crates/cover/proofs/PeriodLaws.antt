@@ -1,6 +1,6 @@
 -- The periods of a sound body: each starts at or after the end before it, so that a moment lies in the time of none but the last that has started by then.
 -- Assumes nothing.
-use Rattle.std.specs.Prelude.{◌≡◌, Bool, true, not, List, ◌∷◌, ℕ, ◌+◌, ◌-◌, ◌≤◌, ◌<◌, length}
+use Rattle.std.specs.Prelude.{◌≡◌, Bool, true, not, List, ◌∷◌, ℕ, ◌+◌, ◌-◌, ◌≤◌, ◌<◌, length, Ok, Err}
 use Rattle.std.proofs.Math.Path.{refl, sym}
 use Rattle.std.proofs.Common.{◌∙◌, true≢false}
 use Rattle.std.proofs.Math.Bool.{false}
@@ -14,7 +14,8 @@ use Rattle.lines.specs.FirstOf.{Row, ◌⇒◌, first_of}
 use Rattle.lines.specs.Same.{before}
 use Rattle.book.specs.Layout.{periods_at, period_of, start_part, end_part}
 use Rattle.book.specs.LayoutLaws.{cols_length, period_length}
-use Rattle.book.specs.Form.{period_form, in_form, follows_at, period_sound_at, periods_sound, Body}
+use Rattle.moment.specs.Moment.{Checked, is_real}
+use Rattle.book.specs.Form.{period_form, in_form, wrong_moment, follows_at, period_sound_at, periods_sound, Body}
 use Rattle.cover.specs.OrderLaws.{either_side}
 use Rattle.cover.specs.UntilLaws.{unless, before_until}
 use Rattle.cover.specs.Cover.{asked, in_time, period_covers, covers_at}
@@ -22,10 +23,15 @@ use Rattle.cover.specs.Rising.{start_of, after, Rising, Sought, OnlyBefore}
 use Rattle.cover.specs.RisingLaws.{stays_after, after_first, period_inside}
 
 -- where the answer passes a test, no row applies whose own answer does not
-passed : {A : Type 0} (test : A → Bool) (b : Bool) (a : A) (rows : List (Row A)) (other : A) → test (first_of ((b ⇒ a) ∷ rows) other) ≡ true → test a ≡ false → (b ≡ false) × (test (first_of rows other) ≡ true)
+passed : {A : Type 0} (test : A → Bool) (b : Bool) (a : A) (rows : List (Row A)) (other : A) → test (first_of ((b ⇒ a) ∷ rows) other) ≡ true → (b ≡ true → test a ≡ false) → (b ≡ false) × (test (first_of rows other) ≡ true)
 unfolding first_of
-passed test true a rows other e n = absurd (true≢false (sym e ∙ n))
+passed test true a rows other e n = absurd (true≢false (sym e ∙ n refl))
 passed test false a rows other e n = (refl, e)
+
+-- a moment that is not real is no form
+wrong : (m : Checked) → not (is_real m) ≡ true → in_form (wrong_moment m) ≡ false
+wrong (Ok t) e = sym e
+wrong (Err fault) e = refl
 
 module _ (w : ℕ) (wide : 40 ≤ w) (book : List ℕ) (at : ℕ) (b : Body w book at) where
   abbrev end_of : ℕ → List ℕ
@@ -50,10 +56,10 @@ module _ (w : ℕ) (wide : 40 ≤ w) (book : List ℕ) (at : ℕ) (b : Body w bo
   unfolding period_sound_at period_form start_of
   starts_first j h =
       let form = and_left (in_form (period_form (eqb (j + 1) (periods_at book at)) (period_of w book at j))) (follows_at w book at j) (sound j h) in
-      let plated = passed in_form _ _ _ _ form refl in
-      let started = passed in_form _ _ _ _ plated.1 refl in
-      let ended = passed in_form _ _ _ _ started.1 refl in
-      not-false (before (start_part (period_of w book at j)) (end_of j)) (passed in_form _ _ _ _ ended.1 refl).0
+      let plated = passed in_form _ _ _ _ form (λ e. refl) in
+      let started = passed in_form _ _ _ _ plated.1 (wrong _) in
+      let ended = passed in_form _ _ _ _ started.1 (wrong _) in
+      not-false (before (start_part (period_of w book at j)) (end_of j)) (passed in_form _ _ _ _ ended.1 (λ e. refl)).0
 
   -- the next does not start before that
   follows : (j : ℕ) → j + 1 < periods_at book at → before (start_of w book at (j + 1)) (end_of j) ≡ false

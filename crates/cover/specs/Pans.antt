@@ -1,5 +1,6 @@
 -- The index of a book's agreements by their PANs. Assumes nothing.
 use Rattle.std.specs.Prelude.{List, [], ◌∷◌, ℕ}
+use Rattle.chains.specs.declared.indexing.Index.{Index}
 use Rattle.chains.specs.Index.{Indexed}
 use Rattle.book.specs.Layout.{agreements, entry_layout}
 
@@ -8,5 +9,5 @@ abbrev pub pan_span : List ℕ
 pan_span = 1 ∷ 19 ∷ []
 
 -- the entries are chained by the hash of their PANs
-abbrev pub PansIndexed : List ℕ → List ℕ → List ℕ → Type 0
-PansIndexed book heads prev = Indexed entry_layout book pan_span (agreements book) heads prev
+abbrev pub PansIndexed : List ℕ → Index → Type 0
+PansIndexed book index = Indexed entry_layout book pan_span (agreements book) index

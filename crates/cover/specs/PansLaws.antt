@@ -1,16 +1,18 @@
 -- What the index of PANs finds: the last entry that has a PAN, which is the only one. Assumes nothing.
-use Rattle.std.specs.Prelude.{◌≡◌, refl, List, ℕ, ◌-◌, ◌<◌, length, ltb}
+use Rattle.std.specs.Prelude.{◌≡◌, refl, true, List, ℕ, zero, suc, ◌-◌, ◌≤◌, ◌<◌, length, ltb}
+use Rattle.std.specs.Option.{unwrap_or}
 use Rattle.std.proofs.Math.Path.{sym, ap}
 use Rattle.std.proofs.Common.{◌∙◌, arith, take_all}
 use Rattle.std.proofs.Math.Bool.{not}
 use Rattle.lines.specs.Below.{all_below}
 use Rattle.lines.specs.BelowLaws.{some_each, first_hit, first_none}
 use Rattle.lines.specs.Spans.{span_in, spans_in, span_agrees, agree_across}
-use Rattle.chains.specs.Last.{last_below}
+use Rattle.chains.specs.Last.{last_below, place_of, last_place}
 use Rattle.chains.specs.LastLaws.{last_le, last_is, last_some}
 use Rattle.chains.specs.Index.{Ruled, Asked, agrees_with}
-use Rattle.book.specs.Layout.{agreements, entry_layout, pan_of}
-use Rattle.book.specs.Form.{Whole}
+use Rattle.book.specs.Layout.{width, agreements, entry_layout, pan_of}
+use Rattle.book.specs.Form.{book_sound, Whole}
+use Rattle.book.specs.FormLaws.{whole_is}
 use Rattle.cover.specs.UntilLaws.{unless}
 use Rattle.cover.specs.Cover.{pan_is, agreement_of, Named}
 use Rattle.cover.specs.CoverLaws.{pan_once}
@@ -25,6 +27,13 @@ entries_ruled w book s = record { fits = s.headed.entries; few = omega (arith, s
 pub pan_asked : (pan : List ℕ) → length pan ≡ 19 → Asked pan_span pan_span pan
 unfolding spans_in span_in all_below
 pan_asked pan e = record { inside = rw e; paired = refl }
+
+-- so are those of a book that is found sound
+pub sound_ruled : (book : List ℕ) → book_sound width book ≡ true → Ruled entry_layout book pan_span (agreements book)
+sound_ruled book e = entries_ruled width book (whole_is width book e)
+
+pub sound_enough : (book : List ℕ) → book_sound width book ≡ true → 2 ≤ length book
+sound_enough book e = (whole_is width book e).headed.enough
 
 module _ (w : ℕ) (book pan : List ℕ) (n : Named w book pan) where
   -- an entry agrees just where it has the PAN
@@ -49,3 +58,15 @@ module _ (w : ℕ) (book pan : List ℕ) (n : Named w book pan) where
         (first_hit (pan_is book pan) (agreements book) (last - 1) within
         (some_each (pan_is book pan) (last - 1) (λ i l. unless (pan_is book pan i) (not (pan_is book pan (last - 1))) (λ t. ap not (pan_once w book pan n i (last - 1) l within t)) (ap not here)))
         here)
+
+    -- counted from 0, or the number of agreements where there is none
+    pub agreement_at : unwrap_or (place_of last) (agreements book) ≡ agreement_of book pan
+    unfolding place_of
+    agreement_at = go last refl
+      where
+        go : (k : ℕ) → last ≡ k → unwrap_or (place_of k) (agreements book) ≡ agreement_of book pan
+        go zero z = no_agreement z
+        go (suc k) z = let s : k ≡ last - 1 = omega arith in s ∙ last_agreement (omega arith)
+
+  pub agreement_found : unwrap_or (last_place (agreements book) (agrees_with entry_layout book pan_span pan_span pan)) (agreements book) ≡ agreement_of book pan
+  agreement_found = agreement_at (last_below (agreements book) (agrees_with entry_layout book pan_span pan_span pan)) refl

@@ -186,7 +186,14 @@ fn covering_agreement(
 }
 
 // The first period of agreement i that covers.
-fn cover_in(book: &[u8], i: usize, named: bool, moment: &[u8], plate: &[u8], nation: &[u8]) -> Option<Place>
+fn cover_in(
+    book: &[u8],
+    i: usize,
+    named: bool,
+    moment: &[u8],
+    plate: &[u8],
+    nation: &[u8],
+) -> Option<Place>
     requires { Ready width book.now moment.now }
     ensures { result ≡ cover_in width book.now (asked named moment.now plate.now nation.now) i }
 {
@@ -205,7 +212,13 @@ fn cover_in(book: &[u8], i: usize, named: bool, moment: &[u8], plate: &[u8], nat
 }
 
 // What covers a passage with this PAN, exit moment, detected plate and nation: the first period in book order. A sound book is what the check has shown before.
-pub fn cover_at(book: &[u8], pan: &[u8], moment: &[u8], plate: &[u8], nation: &[u8]) -> Option<Place>
+pub fn cover_at(
+    book: &[u8],
+    pan: &[u8],
+    moment: &[u8],
+    plate: &[u8],
+    nation: &[u8],
+) -> Option<Place>
     requires { Ready width book.now moment.now × (length pan.now ≡ 19) }
     ensures { result ≡ cover_of width book.now pan.now moment.now plate.now nation.now }
 {

@@ -1,11 +1,11 @@
-ghost use Rattle.std.specs.Prelude.{◌≡◌, true};
-ghost use Rattle.book.specs.Layout.{width};
+ghost use Rattle.std.specs.Prelude.{◌≡◌, ◌≤◌, true, length};
+ghost use Rattle.book.specs.Layout.{width, agreements, entry_layout};
 ghost use Rattle.book.specs.Form.{book_sound};
 ghost use Rattle.cover.specs.Cover.{agreement_of, Named};
-ghost use Rattle.cover.specs.Pans.{PansIndexed};
+ghost use Rattle.cover.specs.Pans.{pan_span, PansIndexed};
 
 use book::agreements_of;
-use chains::{Heads, Links, index_lines, last_agreeing};
+use chains::{Index, Rows, Sought, index_lines, last_agreeing};
 use lines::Layout;
 
 // The entries of a book.
@@ -18,23 +18,38 @@ const ENTRIES: Layout = Layout {
 // The PAN of an entry, and all of a PAN that is asked for.
 const PAN: [usize; 2] = [1, 19];
 
-// Chains the agreements of a sound book by their PANs. What the arrays held before does not matter.
-pub fn index_pans(book: &[u8], heads: &mut Heads, prev: &mut Links)
-    requires { book_sound width book.now ≡ true }
-    ensures { PansIndexed book.now heads.new prev.new }
+// The entries of a book, by their PANs.
+fn entries(book: &[u8]) -> Rows<'_>
+    requires { 2 ≤ length book.now }
+    ensures { (result.layout ≡ entry_layout) × (result.file ≡ book.entry) × (result.spans.now ≡ pan_span) × (result.count ≡ agreements book.now) }
 {
-    index_lines(ENTRIES, book, &PAN, agreements_of(book), heads, prev);
+    Rows {
+        layout: ENTRIES,
+        file: book,
+        spans: &PAN,
+        count: agreements_of(book),
+    }
+}
+
+// Chains the agreements of a sound book by their PANs. What the index held before does not matter.
+#[tactic(auto, using(crate::specs::PansLaws::sound_ruled, crate::specs::PansLaws::sound_enough))]
+pub fn index_pans(book: &[u8], index: &mut Index)
+    requires { book_sound width book.now ≡ true }
+    ensures { PansIndexed book.now index.new }
+{
+    index_lines(entries(book), index);
 }
 
 // The agreement of a PAN: no two share one, so the last that has it is the first. The number of agreements where there is none.
-pub fn agreement_with(book: &[u8], heads: &Heads, prev: &Links, pan: &[u8]) -> usize
-    requires { Named width book.now pan.now × PansIndexed book.now heads.now prev.now }
+#[tactic(auto, using(crate::specs::PansLaws::sound_ruled, crate::specs::PansLaws::sound_enough, crate::specs::PansLaws::pan_asked, crate::specs::PansLaws::agreement_found))]
+pub fn agreement_with(book: &[u8], index: &Index, pan: &[u8]) -> usize
+    requires { Named width book.now pan.now × PansIndexed book.now index.now }
     ensures { result ≡ agreement_of book.now pan.now }
 {
-    let n = agreements_of(book);
-    let last = last_agreeing(ENTRIES, book, &PAN, n, heads, prev, &PAN, pan);
-    if last == 0 {
-        return n;
-    }
-    last - 1
+    let rows = entries(book);
+    let sought = Sought {
+        line: pan,
+        spans: &PAN,
+    };
+    last_agreeing(rows, index, sought).unwrap_or(rows.count)
 }

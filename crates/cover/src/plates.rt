@@ -10,7 +10,7 @@ use crate::cover::{Place, body_place, in_time, is_leased};
 use crate::pans::agreement_with;
 use crate::rising::cover_in_time;
 use book::{NATION, PLATE, agreements_of, period_of, periods_at};
-use chains::{HASHES, Heads, Links, clear_ahead, enter_ahead, hash_two, link_of};
+use chains::{HASHES, Index, clear_ahead, enter_ahead, hash_two};
 use lines::{Class, all_of, field};
 
 // A period has a number: 64 for each agreement before its own, and its place there; so numbers go in book order. The links of an index lead
@@ -81,13 +81,13 @@ fn first_leased(book: &[u8], links: &[u16], moment: &[u8], plate: &[u8], nation:
     ensures { result ≡ first_below (numbers_of book.now) (covers_number book.now (asked false moment.now plate.now nation.now)) }
 {
     let n = 64 * agreements_of(book);
-    let mut x = link_of(links[hash_two(plate, nation)]);
+    let mut x = usize::from(links[hash_two(plate, nation)]);
     while x < n {
         let at = body_place(book, x / 64);
         if plate_covers(period_of(book, at, x % 64), moment, plate, nation) {
             return x;
         }
-        x = link_of(links[HASHES + slot_at(at, x % 64)]);
+        x = usize::from(links[HASHES + slot_at(at, x % 64)]);
     }
     x
 }
@@ -106,11 +106,10 @@ fn place_for(book: &[u8], x: usize) -> Option<Place>
     })
 }
 
-// What covers a passage with this PAN, exit moment, detected plate and nation: the first period in book order. Heads and prev are those of `index_pans`, the links those of `index_plates`.
+// What covers a passage with this PAN, exit moment, detected plate and nation: the first period in book order. The PANs are indexed by `index_pans`, the links made by `index_plates`.
 pub fn cover_by(
     book: &[u8],
-    heads: &Heads,
-    prev: &Links,
+    pans: &Index,
     links: &[u16],
     pan: &[u8],
     moment: &[u8],
@@ -118,11 +117,11 @@ pub fn cover_by(
     nation: &[u8],
 ) -> Option<Place>
     requires ready { Ready width book.now moment.now × (length pan.now ≡ 19) × PlatesIndexed book.now links.now }
-    requires pans_indexed { PansIndexed book.now heads.now prev.now }
+    requires pans_indexed { PansIndexed book.now pans.now }
     ensures { result ≡ cover_of width book.now pan.now moment.now plate.now nation.now }
 {
     if !all_of(Class::Only(32), pan) {
-        return cover_in_time(book, agreement_with(book, heads, prev, pan), moment);
+        return cover_in_time(book, agreement_with(book, pans, pan), moment);
     }
     place_for(book, first_leased(book, links, moment, plate, nation))
 }

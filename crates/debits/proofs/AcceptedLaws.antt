@@ -1,13 +1,13 @@
 -- The debits that accepted credits take: each was free, and no two take the same one. Assumes nothing.
-use Rattle.std.specs.Prelude.{◌≡◌, Bool, not, ◌&&◌, List, get_or, set, eqb}
+use Rattle.std.specs.Prelude.{◌≡◌, Bool, not, ◌&&◌, List, eqb}
 use Rattle.std.proofs.Math.Path.{refl}
-use Rattle.std.proofs.Common.{sym, ap, ◌∙◌, ⊎_elim, true≢false, eq-or-lt_of_le, add-one, arith, length-set, get_or-set_same, get_or-set_other}
-use Rattle.std.proofs.Math.Bool.{true, false, cond}
-use Prim.Native.Nat.{ℕ, zero, suc, ◌+◌, ◌≤◌, ◌<◌}
+use Rattle.std.proofs.Common.{sym, ap, ◌∙◌, ⊎_elim, true≢false, eq-or-lt_of_le, arith}
+use Rattle.std.proofs.Math.Bool.{true, false}
+use Prim.Native.Nat.{ℕ, zero, suc, ◌≤◌, ◌<◌}
 use Rattle.std.proofs.Math.ListN.{length}
-use borrow.Author.Tests.{eqb-true, eqb-false, eq-eqb, not-true}
-use Rattle.lines.specs.BoolLaws.{and_one, and_left, and_right, and_false_right}
-use Rattle.debits.specs.Taking.{agrees, unmarked, free_for, taken, took_debit, marks_then}
+use borrow.Author.Tests.{eq-eqb, not-true}
+use Rattle.lines.specs.BoolLaws.{and_left, and_right, and_false_right}
+use Rattle.debits.specs.Taking.{agrees, unmarked, free_for, taken, took_debit}
 use Rattle.debits.specs.TakingLaws.{marks_then_lem, took_some, took_none}
 use Rattle.debits.specs.Credits.{marks_after, taken_at, place_at, credit_accepted, credit_refused}
 use Rattle.debits.specs.CreditsLaws.{unmarked_set, after_length, skipped_is, Accepted}

@@ -1,10 +1,9 @@
 -- What the exported call tells: the answer by its number, nine values where it is answered, and all that is lent afterwards. Assumes nothing.
-use Rattle.std.specs.Prelude.{◌≡◌, List, [], ◌∷◌, ℕ}
+use Rattle.std.specs.Prelude.{◌≡◌, List, [], ◌∷◌, ℕ, Err, Ok}
 use Rattle.lines.specs.Splice.{splice}
 use Rattle.answers.specs.Answer.{answer_code}
 use Rattle.judge.specs.Call.{Call, answer_of, marks_of, out_of, words_kept}
-use Rattle.answers.specs.declared.answer.Answer.{Answer}
-use Rattle.answers.specs.declared.answer.Answer.TheVariants.{Refused, Answered}
+use Rattle.answers.specs.Answer.{Answer}
 use Rattle.answers.specs.declared.answer.Summary.{Summary}
 use Rattle.exports.specs.Numbers.{side_number, call_number}
 
@@ -24,8 +23,8 @@ summary_told s =
 
 -- the nine values afterwards: as they were where the call is refused
 abbrev pub summary_after : Answer → List ℕ → List ℕ
-summary_after (Refused fault) summary = summary
-summary_after (Answered s) summary = summary_told s
+summary_after (Err fault) summary = summary
+summary_after (Ok s) summary = summary_told s
 
 pub record AnswerTold (answer : Answer) (summary : List ℕ) (r : ℕ) (summary' : List ℕ) : Type 0 where
   pub number : r ≡ call_number answer

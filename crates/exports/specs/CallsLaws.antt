@@ -3,7 +3,7 @@ use Rattle.std.specs.Prelude.{◌≡◌, List, ℕ, ◌<◌}
 use Rattle.std.proofs.Common.{sym, ap, ◌∙◌, arith}
 use Rattle.answers.specs.Answer.{fault_number}
 use Rattle.judge.specs.Call.{Call, WordsJudged}
-use Rattle.answers.specs.declared.answer.Answer.{Answer}
+use Rattle.answers.specs.Answer.{Answer}
 use Rattle.answers.specs.declared.answer.CallFault.{CallFault}
 use Rattle.exports.specs.Numbers.{call_number}
 use Rattle.exports.specs.Calls.{summary_after, AnswerTold, CallJudged}

@@ -1,5 +1,5 @@
 -- The numbers by which the exported functions tell the paper's words. Assumes nothing.
-use Rattle.std.specs.Prelude.{ℕ, ◌+◌, Result, Ok, Err}
+use Rattle.std.specs.Prelude.{ℕ, ◌+◌, Err, Ok, Result}
 use Rattle.tif.specs.declared.side.Side.{Side}
 use Rattle.tif.specs.declared.side.Side.TheVariants.{Credit, Debit, Neither}
 use Rattle.tic_parts.specs.Reading.{fault_number}
@@ -8,8 +8,7 @@ use Rattle.tic_text.specs.declared.values.TicValues.{TicValues}
 use Rattle.tic.specs.declared.rewriting.RewriteFault.{RewriteFault}
 use Rattle.tic.specs.declared.rewriting.RewriteFault.TheVariants.{Unreadable, TooShort}
 use Rattle.answers.specs.Answer as call
-use Rattle.answers.specs.declared.answer.Answer.{Answer}
-use Rattle.answers.specs.declared.answer.Answer.TheVariants.{Refused, Answered}
+use Rattle.answers.specs.Answer.{Answer}
 use Rattle.answers.specs.declared.answer.CallFault.TheVariants.{Room}
 
 -- `000`, `CRE`, `DEB`
@@ -20,8 +19,8 @@ side_number Debit = 2
 
 -- E1 to E8, and 0 for a call that is answered
 abbrev pub call_number : Answer → ℕ
-call_number (Refused fault) = call.fault_number fault
-call_number (Answered s) = 0
+call_number (Err fault) = call.fault_number fault
+call_number (Ok s) = 0
 
 -- T1 to T5, and 0 for a TIC that reads
 abbrev pub reading_number : Result TicValues TicFault → ℕ

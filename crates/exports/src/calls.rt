@@ -33,11 +33,11 @@ fn tell_answer(summary: &mut [u64; 9], answer: Answer) -> u32
     ensures { AnswerTold answer summary.old result summary.new }
 {
     match answer {
-        Answer::Refused(fault) => call_fault_number(fault),
-        Answer::Answered(s) => {
+        Ok(s) => {
             put_summary(summary, s);
             0
         }
+        Err(fault) => call_fault_number(fault),
     }
 }
 

@@ -3,7 +3,7 @@ use Rattle.std.specs.Prelude.{◌≡◌, cond, List, [], ◌∷◌, ◌++◌, �
 use Rattle.tif.specs.Body.{gross_of}
 use Rattle.verdicts.specs.declared.record.Record.{Record}
 use Rattle.verdicts.specs.declared.verdict.Verdict.TheVariants.{Credits}
-use Rattle.answers.specs.declared.answer.Answer.{Answer}
+use Rattle.answers.specs.Answer.{Answer}
 use Rattle.judge.specs.Call.{Call, call_of, answer_of, marks_of, out_of}
 use Rattle.job_form.specs.Form.{is_job, body_of}
 use Rattle.job_line.specs.Line.{answer_text}

@@ -6,7 +6,7 @@ use Rattle.std.proofs.lemmas.List.{length-replicate}
 use Rattle.lines.specs.Splice.{Put}
 use Rattle.lines.specs.SpliceLaws.{splice_zero}
 use Rattle.verdicts.specs.declared.record.Record.{Record}
-use Rattle.answers.specs.declared.answer.Answer.{Answer}
+use Rattle.answers.specs.Answer.{Answer}
 use Rattle.judge.specs.Call.{call_of, check_of, summary_of, words_judged, answer_for, answer_sound, answer_of, marks_of, out_of, Judged}
 use Rattle.job_form.specs.Form.{is_job}
 use Rattle.job_line.specs.Line.{answer_text}

@@ -1,10 +1,9 @@
 -- An answer as the program prints it, without the line feed. Assumes nothing.
-use Rattle.std.specs.Prelude.{cond, List, [], ◌∷◌, ◌++◌, ℕ, zero, suc, ◌/◌, ltb}
+use Rattle.std.specs.Prelude.{cond, List, [], ◌∷◌, ◌++◌, ℕ, zero, suc, ◌/◌, ltb, Err, Ok}
 use Rattle.lines.specs.Number.{digits_of}
 use Rattle.tif.specs.Side.{side_text}
 use Rattle.answers.specs.Answer.{answer_code, fault_number}
-use Rattle.answers.specs.declared.answer.Answer.{Answer}
-use Rattle.answers.specs.declared.answer.Answer.TheVariants.{Refused, Answered}
+use Rattle.answers.specs.Answer.{Answer}
 use Rattle.answers.specs.declared.answer.CallFault.{CallFault}
 use Rattle.answers.specs.declared.answer.Summary.{Summary}
 
@@ -43,5 +42,5 @@ unfoldable pub summary_text : Summary → List ℕ
 summary_text s = head_text s ++ counts_text s ++ amounts_text s
 
 abbrev pub answer_text : Answer → List ℕ
-answer_text (Refused fault) = fault_text fault
-answer_text (Answered s) = summary_text s
+answer_text (Err fault) = fault_text fault
+answer_text (Ok s) = summary_text s

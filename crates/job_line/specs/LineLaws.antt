@@ -1,13 +1,12 @@
 -- The laws of the printed answer: how many digits a number has, and how long each text is. Assumes nothing.
-use Rattle.std.specs.Prelude.{◌≡◌, refl, Bool, true, false, cond, [], ◌∷◌, ◌++◌, ℕ, zero, suc, ◌+◌, ◌-◌, ◌/◌, ◌≤◌, ◌<◌, length, ltb}
+use Rattle.std.specs.Prelude.{◌≡◌, refl, Bool, true, false, cond, [], ◌∷◌, ◌++◌, ℕ, zero, suc, ◌+◌, ◌-◌, ◌/◌, ◌≤◌, ◌<◌, length, ltb, Err, Ok}
 use Rattle.std.proofs.Common.{not-suc-le-zero, arith, length-append, lt-ltb, le-ltb}
 use Rattle.lines.specs.Number.{digits_of}
 use Rattle.lines.specs.NumberLaws.{digits_length}
 use Rattle.tif.specs.Side.{side_text}
 use Rattle.tic_text.specs.TextLaws.{side_length}
 use Rattle.answers.specs.Answer.{answer_code, fault_number}
-use Rattle.answers.specs.declared.answer.Answer.{Answer}
-use Rattle.answers.specs.declared.answer.Answer.TheVariants.{Refused, Answered}
+use Rattle.answers.specs.Answer.{Answer}
 use Rattle.answers.specs.declared.answer.CallFault.{CallFault}
 use Rattle.answers.specs.declared.answer.Summary.{Summary}
 use Rattle.job_line.specs.Line.{digit_count, decimal, after_blank, fault_text, head_text, counts_text, amounts_text, summary_text, answer_text}
@@ -80,5 +79,5 @@ unfolding summary_text
 summary_length s = omega (arith, length-append (head_text s ++ counts_text s) (amounts_text s), length-append (head_text s) (counts_text s), head_length s, counts_length s, amounts_length s)
 
 pub answer_length : (answer : Answer) → length (answer_text answer) ≤ 132
-answer_length (Refused fault) = fault_length fault
-answer_length (Answered s) = summary_length s
+answer_length (Err fault) = fault_length fault
+answer_length (Ok s) = summary_length s

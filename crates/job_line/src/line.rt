@@ -69,7 +69,7 @@ pub fn put_answer(line: &mut [u8], at: usize, answer: Answer) -> usize
     ensures { Put (answer_text answer) at line.old result line.new }
 {
     match answer {
-        Answer::Refused(fault) => put_fault(line, at, fault),
-        Answer::Answered(s) => put_summary(line, at, s),
+        Ok(s) => put_summary(line, at, s),
+        Err(fault) => put_fault(line, at, fault),
     }
 }

@@ -1,5 +1,5 @@
 -- The call as a whole: what is lent, the answer, and what is lent afterwards. Assumes nothing.
-use Rattle.std.specs.Prelude.{◌≡◌, ℕ, ◌<◌, Bool, true, false, cond, List, [], ◌++◌, length, drop, Ok, Err}
+use Rattle.std.specs.Prelude.{◌≡◌, ℕ, ◌<◌, Bool, true, false, cond, List, [], ◌++◌, length, drop, Err, Ok}
 use Rattle.lines.specs.Splice.{splice}
 use Rattle.tif.specs.Acceptance.{Acceptance, acceptance_of}
 use Rattle.tif.specs.Name.{name_sender}
@@ -11,9 +11,8 @@ use Rattle.answers.specs.Fault.{check_call}
 use Rattle.answers.specs.Listing.{tic_of}
 use Rattle.answers.specs.Told.{summary_for, head_of, sums_of, too_small}
 use Rattle.judge.specs.Records.{LineKnown, records_to}
-use Rattle.answers.specs.declared.answer.Answer.{Answer}
-use Rattle.answers.specs.declared.answer.Answer.TheVariants.{Refused, Answered}
-use Rattle.answers.specs.declared.answer.CallCheck.{CallCheck}
+use Rattle.answers.specs.Answer.{Answer}
+use Rattle.answers.specs.Answer.{CallCheck}
 use Rattle.answers.specs.declared.answer.CallFault.TheVariants.{Room}
 use Rattle.answers.specs.declared.answer.Summary.{Summary}
 
@@ -81,19 +80,19 @@ tic_of_call c = tic_of c.name c.received c.card c.tif (words_judged c) (head_of 
 
 -- the answer of a call that is sound so far
 abbrev pub answer_sound : Summary → ℕ → ℕ → Answer
-answer_sound s room size = cond (too_small s room size) (Refused Room) (Answered s)
+answer_sound s room size = cond (too_small s room size) (Err Room) (Ok s)
 
 abbrev pub answer_for : CallCheck → Answer → Answer
-answer_for (CallCheck.Faulty fault) sound = Refused fault
-answer_for CallCheck.Sound sound = sound
+answer_for (Err fault) sound = Err fault
+answer_for (Ok tt) sound = sound
 
 unfoldable pub answer_of : Call → Answer
 answer_of c = answer_for (check_of c) (answer_sound (summary_of c) c.room (length c.out))
 
 -- a call refused by number leaves what is lent as it was
 abbrev pub is_answered : Answer → Bool
-is_answered (Refused fault) = false
-is_answered (Answered s) = true
+is_answered (Err fault) = false
+is_answered (Ok s) = true
 
 unfoldable pub marks_of : Call → List ℕ
 marks_of c = cond (is_answered (answer_of c)) (marks_judged c) c.marks
@@ -103,8 +102,8 @@ out_of c = cond (is_answered (answer_of c)) (splice c.out 0 (tic_text (tic_of_ca
 
 -- how many records are filled
 abbrev pub lines_to_record : Answer → ℕ
-lines_to_record (Refused fault) = 0
-lines_to_record (Answered s) = s.lines
+lines_to_record (Err fault) = 0
+lines_to_record (Ok s) = s.lines
 
 unfoldable pub records_of : Call → List Record → List Record
 records_of c records = records_to c.tif (words_judged c) (lines_to_record (answer_of c)) ++ drop (lines_to_record (answer_of c)) records

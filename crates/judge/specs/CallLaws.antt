@@ -1,5 +1,5 @@
 -- From the words and the records that were filled by them to what the call ensures. Assumes nothing.
-use Rattle.std.specs.Prelude.{◌≡◌, ℕ, zero, suc, ◌+◌, ◌-◌, ◌<◌, ◌≤◌, Bool, true, false, List, [], ◌∷◌, ◌++◌, length, take, drop, slice_index, slice_index_or}
+use Rattle.std.specs.Prelude.{◌≡◌, ℕ, zero, suc, ◌+◌, ◌-◌, ◌<◌, ◌≤◌, Bool, true, false, List, [], ◌∷◌, ◌++◌, length, take, drop, slice_index, slice_index_or, Err, Ok}
 use Rattle.std.specs.Prelude.{refl}
 use Rattle.std.proofs.Math.Path.{ap}
 use Rattle.std.proofs.Common.{◌∙◌, arith, length-append, take_at, length-take-le}
@@ -15,8 +15,8 @@ use Rattle.answers.specs.Told.{too_small}
 use Rattle.judge.specs.Call.{Call, check_of, words_judged, summary_of, lines_to_record, answer_of, words_kept, records_of, WordsJudged, Judged}
 use Rattle.judge.specs.Core.{words_tried, CallTried}
 use Rattle.judge.specs.Records.{LineKnown, record_at, records_to}
-use Rattle.answers.specs.declared.answer.Answer.{Answer}
-use Rattle.answers.specs.declared.answer.CallCheck.{CallCheck}
+use Rattle.answers.specs.Answer.{Answer}
+use Rattle.answers.specs.Answer.{CallCheck}
 
 -- the words that are recorded are those of the lines judged
 recorded_words : (c : Call) (z : List ℕ) (k : ℕ) → k < lines_to_record (answer_of c) → slice_index (splice z 0 (words_tried c)) k ≡ slice_index (words_judged c) k
@@ -24,13 +24,13 @@ unfolding answer_of words_tried summary_of
 recorded_words c z k h = go (check_of c) refl (too_small (summary_of c) c.room (length c.out)) refl
   where
     go : (x : CallCheck) → check_of c ≡ x → (small : Bool) → too_small (summary_of c) c.room (length c.out) ≡ small → slice_index (splice z 0 (words_tried c)) k ≡ slice_index (words_judged c) k
-    go (CallCheck.Faulty f) e small t =
+    go (Err f) e small t =
         let n : lines_to_record (answer_of c) ≡ 0 = rw e in
         absurd (omega (arith, h, n))
-    go CallCheck.Sound e true t =
+    go (Ok tt) e true t =
         let n : lines_to_record (answer_of c) ≡ 0 = rw (e, t) in
         absurd (omega (arith, h, n))
-    go CallCheck.Sound e false t =
+    go (Ok tt) e false t =
         let n : lines_to_record (answer_of c) ≡ length (words_judged c) = rw (e, t) in
         let w : words_tried c ≡ words_judged c = rw e in
         ap (λ (l : List ℕ). slice_index (splice z 0 l) k) w ∙ ap (λ (l : List ℕ). slice_index l k) (splice_zero z (words_judged c)) ∙ get_or-append (words_judged c) _ 0 k (omega (arith, h, n))
@@ -67,9 +67,9 @@ unfolding answer_of words_tried summary_of words_kept
 kept_words c z = go (check_of c) refl (too_small (summary_of c) c.room (length c.out)) refl
   where
     go : (x : CallCheck) → check_of c ≡ x → (small : Bool) → too_small (summary_of c) c.room (length c.out) ≡ small → take (lines_to_record (answer_of c)) (splice z 0 (words_tried c)) ≡ words_kept c
-    go (CallCheck.Faulty f) e small t = rw e
-    go CallCheck.Sound e true t = rw (e, t)
-    go CallCheck.Sound e false t = rw (e, t) (ap (take (length (words_judged c))) (splice_zero z (words_judged c)) ∙ take_at (words_judged c) _ (length (words_judged c)) refl)
+    go (Err f) e small t = rw e
+    go (Ok tt) e true t = rw (e, t)
+    go (Ok tt) e false t = rw (e, t) (ap (take (length (words_judged c))) (splice_zero z (words_judged c)) ∙ take_at (words_judged c) _ (length (words_judged c)) refl)
 
 module _ (c : Call) (z : List ℕ) (r : Answer) (ms ws os : List ℕ) (n : ℕ) (e : CallTried c z r ms ws os) (en : n ≡ lines_to_record r) where
   -- as many were tried

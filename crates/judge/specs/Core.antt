@@ -1,5 +1,5 @@
 -- What each step of the call rests on, and what it gives. Assumes nothing.
-use Rattle.std.specs.Prelude.{◌≡◌, ℕ, ◌<◌, ◌≤◌, true, cond, List, [], length, take, Ok}
+use Rattle.std.specs.Prelude.{◌≡◌, ℕ, ◌<◌, ◌≤◌, true, cond, List, [], length, take, Err, Ok}
 use Rattle.lines.specs.Rows.{most_lines}
 use Rattle.lines.specs.Splice.{splice}
 use Rattle.tif.specs.Name.{name_sender}
@@ -13,8 +13,8 @@ use Rattle.answers.specs.Told.{head_of, sums_of, too_small}
 use Rattle.judge.specs.Call.{Call, check_of, file_of, words_judged, answer_sound, answer_of, marks_of, out_of, lines_to_record}
 use Rattle.answers.specs.Listing.{tic_of, TicRoom}
 use Rattle.judge.specs.Records.{LineKnown}
-use Rattle.answers.specs.declared.answer.CallCheck.{CallCheck}
-use Rattle.answers.specs.declared.answer.Answer.{Answer}
+use Rattle.answers.specs.Answer.{CallCheck}
+use Rattle.answers.specs.Answer.{Answer}
 use Rattle.answers.specs.declared.answer.Summary.{Summary}
 
 -- lines to judge: a name of its width, what the judging asks for, and room for the words
@@ -43,7 +43,7 @@ pub record Committed (name received card tif words : List ℕ) (s : Summary) (mi
 
 -- a call that is sound so far, and whose words have room
 pub record SoundReady (c : Call) (words : List ℕ) : Type 0 where
-  pub sound : check_of c ≡ CallCheck.Sound
+  pub sound : check_of c ≡ Ok tt
   pub room : 9999 ≤ length words
 
 -- whose file is judged line by line
@@ -64,8 +64,8 @@ pub record FileRefused (name received card tif : List ℕ) (s : Summary) (room :
 -- ---- the call on words that are lent to it to work on
 -- the words that were tried: those of a call that is sound so far
 abbrev pub words_for : CallCheck → List ℕ → List ℕ
-words_for (CallCheck.Faulty fault) words = []
-words_for CallCheck.Sound words = words
+words_for (Err fault) words = []
+words_for (Ok tt) words = words
 
 unfoldable pub words_tried : Call → List ℕ
 words_tried c = words_for (check_of c) (words_judged c)

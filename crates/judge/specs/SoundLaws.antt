@@ -1,5 +1,5 @@
 -- What is known of a call that E1 to E6 and E8 let pass, and of its file where it is judged line by line. Assumes nothing.
-use Rattle.std.specs.Prelude.{◌≡◌, ℕ, ◌+◌, ◌*◌, ◌<◌, ◌≤◌, Bool, true, false, not, List, [], ◌∷◌, length, drop, ◌==◌, Ok}
+use Rattle.std.specs.Prelude.{◌≡◌, ℕ, ◌+◌, ◌*◌, ◌<◌, ◌≤◌, Bool, true, false, cond, not, List, [], ◌∷◌, length, drop, ◌==◌, Ok, Err}
 use Rattle.std.specs.Prelude.{refl}
 use Rattle.std.proofs.Common.{ap, arith, eqb-true}
 use Rattle.std.proofs.lemmas.Bool.{not-false}
@@ -38,17 +38,16 @@ use Rattle.answers.specs.Fault.{lent_rows, check_lent, call_rows, check_call}
 use Rattle.judge.specs.CoreLaws.{words_length}
 use Rattle.answers.specs.Listing as Listing
 use Rattle.answers.specs.Listing.{number_at}
-use Rattle.answers.specs.declared.answer.CallCheck.{CallCheck}
-use Rattle.answers.specs.declared.answer.CallCheck.TheVariants.{Faulty}
+use Rattle.answers.specs.Answer.{CallCheck}
 use Rattle.answers.specs.declared.answer.CallFault.{CallFault}
 
 -- a row that names a fault was not the one
-cleared : (b : Bool) (f : CallFault) (rows : List (Row CallCheck)) (other : CallCheck) → first_of ((b ⇒ Faulty f) ∷ rows) other ≡ CallCheck.Sound → (b ≡ false) × (first_of rows other ≡ CallCheck.Sound)
+cleared : (b : Bool) (f : CallFault) (rows : List (Row CallCheck)) (other : CallCheck) → first_of ((b ⇒ Err f) ∷ rows) other ≡ Ok tt → (b ≡ false) × (first_of rows other ≡ Ok tt)
 unfolding first_of
 cleared true f rows other e = let z : ◌≡◌ {A = ℕ} 0 1 = cc in absurd (omega arith)
 cleared false f rows other e = (refl, e)
 
-last_row : (other : CallCheck) → first_of [] other ≡ CallCheck.Sound → other ≡ CallCheck.Sound
+last_row : (other : CallCheck) → first_of [] other ≡ Ok tt → other ≡ Ok tt
 unfolding first_of
 last_row other e = e
 
@@ -71,18 +70,18 @@ pub record CallSound (c : Call) : Type 0 where
   pub owed : Sound c.debits c.marks
   pub tabled : table_sound c.tst ≡ true
 
-pub check_shows : (c : Call) → check_of c ≡ CallCheck.Sound → CallSound c
+pub check_shows : (c : Call) → check_of c ≡ Ok tt → CallSound c
 unfolding check_call check_lent
 check_shows c e =
     let t = call_rows c.name c.received c.card c.names c.tst in
     let u = lent_rows c.book c.debits c.marks c.tst in
-    let a = cleared (not (is_name c.name)) CallFault.FileName (drop 1 t) (first_of u CallCheck.Sound) e in
-    let b = cleared (not (is_moment c.received)) CallFault.ReceptionMoment (drop 2 t) (first_of u CallCheck.Sound) a.1 in
-    let d = cleared (not (is_card (is_lent c.tst) c.card)) CallFault.CodeCard (drop 3 t) (first_of u CallCheck.Sound) b.1 in
-    let f = cleared (not (names_whole c.names)) CallFault.ReceivedNames [] (first_of u CallCheck.Sound) d.1 in
-    let g = cleared (not (book_sound width c.book)) CallFault.Book (drop 1 u) CallCheck.Sound (last_row (first_of u CallCheck.Sound) f.1) in
-    let h = cleared (not (debits_sound c.debits c.marks)) CallFault.OpenDebits (drop 2 u) CallCheck.Sound g.1 in
-    let t' = cleared (not (table_sound c.tst)) CallFault.StationTable [] CallCheck.Sound h.1 in
+    let a = cleared (not (is_name c.name)) CallFault.FileName (drop 1 t) (first_of u (Ok tt)) e in
+    let b = cleared (not (is_moment c.received)) CallFault.ReceptionMoment (drop 2 t) (first_of u (Ok tt)) a.1 in
+    let d = cleared (not (is_card (is_lent c.tst) c.card)) CallFault.CodeCard (drop 3 t) (first_of u (Ok tt)) b.1 in
+    let f = cleared (not (names_whole c.names)) CallFault.ReceivedNames [] (first_of u (Ok tt)) d.1 in
+    let g = cleared (not (book_sound width c.book)) CallFault.Book (drop 1 u) (Ok tt) (last_row (first_of u (Ok tt)) f.1) in
+    let h = cleared (not (debits_sound c.debits c.marks)) CallFault.OpenDebits (drop 2 u) (Ok tt) g.1 in
+    let t' = cleared (not (table_sound c.tst)) CallFault.StationTable [] (Ok tt) h.1 in
     let n = not-false (is_name c.name) a.0 in
     let m = not-false (is_moment c.received) b.0 in
     let k = not-false (is_card (is_lent c.tst) c.card) d.0 in

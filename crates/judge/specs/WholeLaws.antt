@@ -1,5 +1,5 @@
 -- A file refused as a whole: its TIC has no line, and its counts and sums are zero. Assumes nothing.
-use Rattle.std.specs.Prelude.{◌≡◌, ℕ, ◌≤◌, Bool, true, false, List, [], length, nat_lt}
+use Rattle.std.specs.Prelude.{◌≡◌, ℕ, ◌≤◌, Bool, true, false, List, [], length, nat_lt, Err, Ok}
 use Rattle.std.specs.Prelude.{refl}
 use Rattle.std.proofs.Common.{sym, ◌∙◌, arith}
 use Rattle.std.proofs.Math.Path.{ap}
@@ -21,16 +21,15 @@ use Rattle.judge.specs.Core.{Widths, FileRefused, CallTried}
 use Rattle.answers.specs.Listing.{tic_of, refused_before, TicRoom}
 use Rattle.judge.specs.AnswerLaws.{no_room, answered}
 use Rattle.judge.specs.SoundLaws.{check_shows}
-use Rattle.answers.specs.declared.answer.Answer.{Answer}
-use Rattle.answers.specs.declared.answer.Answer.TheVariants.{Refused, Answered}
-use Rattle.answers.specs.declared.answer.CallCheck.{CallCheck}
+use Rattle.answers.specs.Answer.{Answer}
+use Rattle.answers.specs.Answer.{CallCheck}
 use Rattle.answers.specs.declared.answer.CallFault.{CallFault}
 use Rattle.answers.specs.declared.answer.FileAnswer.{FileAnswer}
 use Rattle.answers.specs.declared.answer.Summary.{Summary}
 
 -- the writing function's own answers
 module _ (name received card tif : List ℕ) (a : FileAnswer) (room : ℕ) (out : List ℕ) (s : Summary) (is : s ≡ refused_file a tif) where
-  pub file_small : too_small s room (length out) ≡ true → FileRefused name received card tif (refused_file a tif) room out (Refused CallFault.Room) out
+  pub file_small : too_small s room (length out) ≡ true → FileRefused name received card tif (refused_file a tif) room out (Err CallFault.Room) out
   file_small small =
       let t : too_small (refused_file a tif) room (length out) ≡ true = ap (λ (x : Summary). too_small x room (length out)) (sym is) ∙ small in
       record { answer = rw t; out_then = rw t }
@@ -49,11 +48,11 @@ module _ (name received card tif : List ℕ) (a : FileAnswer) (room : ℕ) (out 
       }
 
   pub file_written : too_small s room (length out) ≡ false → (h : TicHead) (t : TicSums) → h ≡ head_of s → t ≡ sums_of s → (r : ℕ) (out' : List ℕ) → Put (tic_text (tic_of name received card tif [] h t)) 0 out r out'
-      → FileRefused name received card tif (refused_file a tif) room out (Answered s) out'
+      → FileRefused name received card tif (refused_file a tif) room out (Ok s) out'
   file_written small h t eh et r out' p =
       let q : too_small (refused_file a tif) room (length out) ≡ false = ap (λ (x : Summary). too_small x room (length out)) (sym is) ∙ small in
       record {
-        answer = ap {B = Answer} Answered is ∙ rw q;
+        answer = ap {B = Answer} Ok is ∙ rw q;
         out_then =
             p.spliced
             ∙ ap (λ (x : TicHead). splice out 0 (tic_text (tic_of name received card tif [] x t))) (eh ∙ ap head_of is)
@@ -67,7 +66,7 @@ pub record NoLines (c : Call) (a : FileAnswer) : Type 0 where
   pub named : file_answer (file_of c) 0 ≡ a
   pub nothing : total_told (file_of c) ≡ 0
 
-module _ (c : Call) (sound : check_of c ≡ CallCheck.Sound) (a : FileAnswer) (n : NoLines c a) where
+module _ (c : Call) (sound : check_of c ≡ Ok tt) (a : FileAnswer) (n : NoLines c a) where
   no_words : words_judged c ≡ []
   unfolding words_judged words_of table_below
   no_words = rw n.none
@@ -94,11 +93,11 @@ module _ (c : Call) (sound : check_of c ≡ CallCheck.Sound) (a : FileAnswer) (n
     where
       go : (b : Bool) → too_small (refused_file a c.tif) c.room (length c.out) ≡ b → CallTried c words r c.marks words out'
       go true t =
-          let er : r ≡ Refused CallFault.Room = f.answer ∙ rw t in
+          let er : r ≡ Err CallFault.Room = f.answer ∙ rw t in
           let eo : out' ≡ c.out = f.out_then ∙ rw t in
           rw (er, eo) (no_room c sound (refused_file a c.tif) told_none words words (none_tried words) t)
       go false t =
-          let er : r ≡ Answered (refused_file a c.tif) = f.answer ∙ rw t in
+          let er : r ≡ Ok (refused_file a c.tif) = f.answer ∙ rw t in
           let eo : out' ≡ splice c.out 0 (tic_text (tic_of_call c)) = f.out_then ∙ (rw t) ∙ ap (λ (v : Tic). splice c.out 0 (tic_text v)) its_tic in
           rw er (answered c sound (refused_file a c.tif) told_none words words (none_tried words) t c.marks out' same_marks eo (λ k h. absurd (omega arith)))
 
@@ -106,5 +105,5 @@ module _ (c : Call) (sound : check_of c ≡ CallCheck.Sound) (a : FileAnswer) (n
 pub no_lines : (c : Call) (x : Acceptance) → x ≡ file_of c → (lines_to_judge x ≡ 0) × (total_told x ≡ 0) → (a : FileAnswer) → a ≡ file_answer x 0 → NoLines c a
 no_lines c x e none a is = record { none = ap lines_to_judge (sym e) ∙ none.0; named = ap (λ (y : Acceptance). file_answer y 0) (sym e) ∙ sym is; nothing = ap total_told (sym e) ∙ none.1 }
 
-pub widths : (c : Call) → check_of c ≡ CallCheck.Sound → Widths c.name c.received
+pub widths : (c : Call) → check_of c ≡ Ok tt → Widths c.name c.received
 widths c e = let s = check_shows c e in record { named = s.named; dated = s.dated }

@@ -4,8 +4,8 @@ ghost use Rattle.judge.specs.Call.{call_of, lines_to_record};
 ghost use Rattle.judge.specs.Core.{LinesReady, Filled, Committable, Committed, SoundReady, FileReady, Widths, FileRefused, CallTried};
 
 use answers::{
-    Answer, CallCheck, CallFault, FileAnswer, Summary, check_call, file_answer, head_of,
-    is_too_small, put_tic, summarize, summarize_refused, sums_told,
+    Answer, CallFault, FileAnswer, Summary, check_call, file_answer, head_of, is_too_small,
+    put_tic, summarize, summarize_refused, sums_told,
 };
 use judging::judge_lines;
 use lines::{field, put_bytes};
@@ -111,7 +111,7 @@ fn judge_file(
     judge_all(name, book, debits, marks, &mut mine, tif, tst, n, words);
     let s = summarize(tif, &words[0..n], whole);
     if is_too_small(s, room, out.len()) {
-        return Answer::Refused(CallFault::Room);
+        return Err(CallFault::Room);
     }
     commit(
         name,
@@ -124,7 +124,7 @@ fn judge_file(
         marks,
         out,
     );
-    Answer::Answered(s)
+    Ok(s)
 }
 
 // The answer for a file that is refused as a whole: a TIC with no line, and nothing else written.
@@ -142,7 +142,7 @@ fn refuse_file(
 {
     let s = summarize_refused(tif, answer);
     if is_too_small(s, room, out.len()) {
-        return Answer::Refused(CallFault::Room);
+        return Err(CallFault::Room);
     }
     let none = [0u64; 1];
     put_tic(
@@ -155,7 +155,7 @@ fn refuse_file(
         sums_told(s),
         out,
     );
-    Answer::Answered(s)
+    Ok(s)
 }
 
 // The answer of a call that E1 to E6 and E8 let pass.
@@ -204,12 +204,10 @@ pub fn try_call(
     requires { 9999 ≤ length words.old }
     ensures { CallTried (call_of name.now received.now card.now names.now book.now debits.now marks.old tif.now tst.now room out.old) words.old result marks.new words.new out.new }
 {
-    match check_call(name, received, card, names, book, debits, marks, tst) {
-        CallCheck::Faulty(fault) => Answer::Refused(fault),
-        CallCheck::Sound => judge_sound(
-            name, received, card, names, book, debits, marks, tif, tst, room, words, out,
-        ),
-    }
+    check_call(name, received, card, names, book, debits, marks, tst)?;
+    judge_sound(
+        name, received, card, names, book, debits, marks, tif, tst, room, words, out,
+    )
 }
 
 // How many records are to be filled.
@@ -217,7 +215,7 @@ pub fn lines_to_record(answer: Answer) -> usize
     ensures { result ≡ lines_to_record answer }
 {
     match answer {
-        Answer::Refused(_) => 0,
-        Answer::Answered(s) => s.lines,
+        Ok(s) => s.lines,
+        Err(_) => 0,
     }
 }

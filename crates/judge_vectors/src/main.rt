@@ -70,8 +70,8 @@ fn print_summary(to: &mut impl Write, s: Summary) -> io::Result<()> {
 
 fn print_answer(to: &mut impl Write, answer: Answer) -> io::Result<()> {
     match answer {
-        Answer::Refused(fault) => print_fault(to, fault),
-        Answer::Answered(s) => print_summary(to, s),
+        Ok(s) => print_summary(to, s),
+        Err(fault) => print_fault(to, fault),
     }
 }
 

@@ -5,7 +5,7 @@ ghost use Rattle.judging.specs.Judging.{judging};
 ghost use Rattle.judging.specs.Steps.{Given, Stepped, AllJudged};
 
 use crate::line::judge_line;
-use chains::{Heads, Links};
+use chains::Index;
 use tif::Side;
 use tst::index_stations;
 use verdicts::word_of;
@@ -19,15 +19,14 @@ fn judge_next(
     marks: &mut [u8],
     tif: &[u8],
     tst: &[u8],
-    heads: &Heads,
-    prev: &Links,
+    stations: &Index,
     words: &mut [u64],
     k: usize,
 )
-    requires { Given book.now debits.now marks.old tif.now (k + 1) × (k < length words.old) × StationsIndexed tst.now heads.now prev.now }
+    requires { Given book.now debits.now marks.old tif.now (k + 1) × (k < length words.old) × StationsIndexed tst.now stations.now }
     ensures { Stepped (judging side sender.now book.now debits.now tif.now tst.now) k marks.old words.old marks.new words.new }
 {
-    let v = judge_line(side, sender, book, debits, marks, tif, tst, heads, prev, k);
+    let v = judge_line(side, sender, book, debits, marks, tif, tst, stations, k);
     words[k] = word_of(v);
 }
 
@@ -40,17 +39,16 @@ fn judge_each(
     marks: &mut [u8],
     tif: &[u8],
     tst: &[u8],
-    heads: &Heads,
-    prev: &Links,
+    stations: &Index,
     words: &mut [u64],
 )
-    requires { Given book.now debits.now marks.old tif.now (length words.old) × StationsIndexed tst.now heads.now prev.now }
+    requires { Given book.now debits.now marks.old tif.now (length words.old) × StationsIndexed tst.now stations.now }
     ensures { AllJudged (judging side sender.now book.now debits.now tif.now tst.now) (length words.old) marks.old marks.new words.new }
 {
     let mut k = 0;
     while k < words.len() {
         judge_next(
-            side, sender, book, debits, marks, tif, tst, heads, prev, words, k,
+            side, sender, book, debits, marks, tif, tst, stations, words, k,
         );
         k += 1;
     }
@@ -70,10 +68,9 @@ pub fn judge_lines(
     requires { Given book.now debits.now marks.old tif.now (length words.old) × (table_sound tst.now ≡ true) }
     ensures { AllJudged (judging side sender.now book.now debits.now tif.now tst.now) (length words.old) marks.old marks.new words.new }
 {
-    let mut heads = [0u16; 4096];
-    let mut prev = [0u16; 9999];
-    index_stations(tst, &mut heads, &mut prev);
+    let mut stations = Index::new();
+    index_stations(tst, &mut stations);
     judge_each(
-        side, sender, book, debits, marks, tif, tst, &heads, &prev, words,
+        side, sender, book, debits, marks, tif, tst, &stations, words,
     );
 }

@@ -10,7 +10,7 @@ ghost use Rattle.debits.specs.Taking.{Lent};
 ghost use Rattle.judging.specs.Judging.{repeats_at, repeated_at, cover_on, debit_verdict, judging};
 ghost use Rattle.judging.specs.Steps.{Given, CreditJudged, PassedJudged, Judged};
 
-use chains::{Heads, Links};
+use chains::Index;
 use cover::{Place, cover_at};
 use debits::take_debit;
 use lines::{agree_on, field};
@@ -109,15 +109,14 @@ pub fn judge_line(
     marks: &mut [u8],
     tif: &[u8],
     tst: &[u8],
-    heads: &Heads,
-    prev: &Links,
+    stations: &Index,
     k: usize,
 ) -> Verdict
-    requires { Given book.now debits.now marks.old tif.now (k + 1) × StationsIndexed tst.now heads.now prev.now }
+    requires { Given book.now debits.now marks.old tif.now (k + 1) × StationsIndexed tst.now stations.now }
     ensures { Judged (judging side sender.now book.now debits.now tif.now tst.now) marks.old k result marks.new }
 {
     let line = tif_line(tif, k);
-    let known = is_known_station(tst, heads, prev, line);
+    let known = is_known_station(tst, stations, line);
     match test_line(line, side, sender, known) {
         Err(v) => v,
         Ok(()) => judge_passed(side, book, debits, marks, tif, k),

@@ -9,6 +9,7 @@ pub mod Class
 pub mod ClassLaws
 pub mod Ranges
 pub mod Number
+pub mod ListLaws
 pub mod NumberLaws
 pub mod Same
 pub mod SameLaws
@@ -19,3 +20,4 @@ pub mod Splice
 pub mod SpliceLaws
 pub mod Rows
 pub mod RowsLaws
+pub mod OverRange

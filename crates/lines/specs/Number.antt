@@ -1,5 +1,5 @@
 -- Numbers as bytes: decimal digits, and big-endian. Assumes nothing.
-use Rattle.std.specs.Prelude.{Bool, cond, List, [], ◌∷◌, ◌++◌, ℕ, zero, suc, ◌+◌, ◌-◌, ◌*◌, ◌/◌, ◌%◌, ◌^◌, ◌<◌, ◌≡◌, length, get_or, Option, Some, None}
+use Rattle.std.specs.Prelude.{Bool, cond, List, [], ◌∷◌, ◌++◌, ℕ, zero, suc, ◌+◌, ◌-◌, ◌*◌, ◌/◌, ◌%◌, ◌^◌, ◌<◌, ◌≤◌, ◌≡◌, length, get_or, Option, Some, None}
 use Rattle.lines.specs.Class.{all_of}
 use Rattle.lines.specs.declared.class.Class.TheVariants.{Digit}
 
@@ -31,6 +31,11 @@ value_of s = cond (all_digits s) (number_of s) 0
 unfoldable pub digits_of : ℕ → ℕ → List ℕ
 digits_of zero v = []
 digits_of (suc w) v = digits_of w (v / 10) ++ ((48 + v % 10) ∷ [])
+
+-- bytes that write a number to a base, each a digit of the base, and few enough that the number fits
+pub record Written (base nought : ℕ) (s : List ℕ) : Type 0 where
+  pub digit : (i : ℕ) → i < length s → (nought ≤ get_or s i 0) × (get_or s i 0 - nought < base)
+  pub fits : base ^ length s ≤ 2 ^ 64
 
 -- a big-endian number, and that it has no more bytes than were read
 pub record BigEndian (s : List ℕ) (r : ℕ) : Type 0 where

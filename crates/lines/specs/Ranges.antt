@@ -7,4 +7,4 @@ between low high b = leb low b && leb b high
 
 -- in one range or in the other
 unfoldable pub in_ranges : Ranges → ℕ → Bool
-in_ranges r b = between r.0 r.1 b || between r.2 r.3 b
+in_ranges r b = between r.one.0 r.one.1 b || between r.other.0 r.other.1 b

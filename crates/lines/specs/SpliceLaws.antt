@@ -1,8 +1,10 @@
 -- The laws of a text put into a place: nothing put in, two side by side, one byte, and the turns of a loop that writes. Assumes nothing.
-use Rattle.std.specs.Prelude.{◌≡◌, List, [], ◌∷◌, ◌++◌, ℕ, suc, ◌+◌, ◌≤◌, ◌<◌, length, take, drop, set, get_or}
+use Rattle.std.specs.Prelude.{◌≡◌, refl, List, [], ◌∷◌, ◌++◌, ℕ, suc, ◌+◌, ◌≤◌, ◌<◌, length, take, drop, set, get_or}
 use Rattle.std.proofs.Common.{sym, ap, ◌∙◌, append-nil, append_assoc, add-zero, zero-add, add_assoc, add-one, arith, length-append, length-drop, take-append-drop, length-set, length-take-le, take_at, drop-drop, drop-cons, get_or-set_same, drop-set-lt}
 use Rattle.std.proofs.lemmas.List.{set_split, take-set-le}
-use Rattle.std.proofs.Math.Seq.{append_snoc, paste-suc, drop-length, drop-append-add}
+use Rattle.std.proofs.lemmas.Slice.{put_mid-paste}
+use Rattle.std.proofs.Math.Seq.{append_snoc, paste-suc, drop-length, drop-append-add, take-length}
+use borrow.Rule.Slice.PartMut.{put_mid}
 use Rattle.lines.specs.Splice.{splice, Put}
 
 -- nothing put in
@@ -86,6 +88,15 @@ splice_take_more xs at s j h k =
     let l : length (take j s) ≡ j = length-take-le j s (omega arith) in
     let l' : length (take (suc j) s) ≡ suc j = length-take-le (suc j) s (omega arith) in
     rw (add-one j, l, l') (paste-suc xs at s j 0 h k)
+
+-- a part that was written over with a text
+pub put_over : (text : List ℕ) (at n r : ℕ) (out part : List ℕ) → part ≡ text → n ≡ length text → r ≡ at + length text → Put text at out r (put_mid at n out part)
+unfolding splice
+put_over text at n r out part e f g =
+    record {
+      place = g;
+      spliced = put_mid-paste at n out part text (length text) e (sym f) refl ∙ rw (take-length text);
+    }
 
 -- ---- one put after the other
 pub put_none : (at : ℕ) (out : List ℕ) → Put [] at out at out

@@ -13,7 +13,5 @@ pub fn field(line: &[u8], c: Columns) -> &[u8]
     requires { Inside c (length line.now) }
     ensures { result.now ≡ field_of c line.now }
 {
-    let from = c.from - 1;
-    let to = c.to;
-    &line[from..to]
+    &line[c.from - 1..c.to]
 }

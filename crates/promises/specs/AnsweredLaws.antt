@@ -1,5 +1,5 @@
 -- What a call that is answered leaves in its output and its marks. Assumes nothing.
-use Rattle.std.specs.Prelude.{◌≡◌, List, ◌++◌, ℕ, length, take}
+use Rattle.std.specs.Prelude.{◌≡◌, List, ◌++◌, ℕ, length, take, Ok}
 use Rattle.std.proofs.Common.{sym, ◌∙◌, take_at}
 use Rattle.std.proofs.Math.Path.{ap}
 use Rattle.std.proofs.Math.ListN.{drop}
@@ -7,13 +7,12 @@ use Rattle.lines.specs.SpliceLaws.{splice_zero}
 use Rattle.tic_text.specs.Text.{tic_text}
 use Rattle.verdicts.specs.declared.record.Record.{Record}
 use Rattle.judge.specs.Call.{Call, marks_judged, tic_of_call, marks_of, out_of, Judged}
-use Rattle.answers.specs.declared.answer.Answer.TheVariants.{Answered}
 use Rattle.answers.specs.declared.answer.Summary.{Summary}
 use Rattle.promises.specs.LeftLaws.{Shown, answered_shows}
 use Rattle.promises.specs.Written.{values_of_tic, tic_written}
 use Rattle.promises.specs.WrittenLaws.{same_text, written_length}
 
-module _ (c : Call) (records : List Record) (marks' : List ℕ) (records' : List Record) (out' : List ℕ) (s : Summary) (j : Judged c records (Answered s) marks' records' out') where
+module _ (c : Call) (records : List Record) (marks' : List ℕ) (records' : List Record) (out' : List ℕ) (s : Summary) (j : Judged c records (Ok s) marks' records' out') where
   pub shows : Shown c s
   shows = answered_shows c s (sym j.answer)
 

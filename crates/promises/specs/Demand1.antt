@@ -1,14 +1,13 @@
 -- Demand 1. Every file, book and list gets an answer, however damaged. A call refused by number writes no output byte and changes no mark and no record.
 -- Assumes nothing.
-use Rattle.std.specs.Prelude.{◌≡◌, refl, List, ℕ, ◌≤◌}
+use Rattle.std.specs.Prelude.{◌≡◌, refl, List, ℕ, ◌≤◌, Err}
 use Rattle.std.proofs.Math.Path.{sym}
 use Rattle.std.proofs.Common.{◌∙◌, arith}
 use Rattle.verdicts.specs.declared.record.Record.{Record}
 use Rattle.answers.specs.Answer.{fault_number, answer_code}
 use Rattle.judge.specs.Call.{Call, answer_of, marks_of, records_of, out_of, Judged}
 use Rattle.judge.specs.Records.{records_to}
-use Rattle.answers.specs.declared.answer.Answer.{Answer}
-use Rattle.answers.specs.declared.answer.Answer.TheVariants.{Refused}
+use Rattle.answers.specs.Answer.{Answer}
 use Rattle.answers.specs.declared.answer.CallFault.{CallFault}
 use Rattle.answers.specs.declared.answer.FileAnswer.{FileAnswer}
 
@@ -45,10 +44,10 @@ pub record Untouched (c : Call) (records : List Record) (marks' : List ℕ) (rec
   pub same_records : records' ≡ records
 
 module _ (c : Call) (records : List Record) (r : Answer) (marks' : List ℕ) (records' : List Record) (out' : List ℕ) where
-  pub refused_leaves_all : Judged c records r marks' records' out' → (fault : CallFault) → r ≡ Refused fault → Untouched c records marks' records' out'
+  pub refused_leaves_all : Judged c records r marks' records' out' → (fault : CallFault) → r ≡ Err fault → Untouched c records marks' records' out'
   unfolding marks_of out_of records_of records_to
   refused_leaves_all j fault e =
-      let a : answer_of c ≡ Refused fault = sym j.answer ∙ e in
+      let a : answer_of c ≡ Err fault = sym j.answer ∙ e in
       record {
         same_output = j.out_then ∙ rw a;
         same_marks = j.marks_then ∙ rw a;

@@ -2,7 +2,7 @@
 -- else does. Reading the TIC gives back exactly its refusals, and writing what was read gives the same bytes. Accepted and refused amounts add up to the
 -- TIF's total, and the counts to its lines.
 -- All of this is of any call that is answered, whatever was lent: s is what it told, and out' the output afterwards. Assumes nothing.
-use Rattle.std.specs.Prelude.{◌≡◌, true, List, ◌++◌, ℕ, ◌+◌, ◌≤◌, ◌<◌, length, get_or, drop, eqb, Result, Ok, Err}
+use Rattle.std.specs.Prelude.{◌≡◌, true, List, ◌++◌, ℕ, ◌+◌, ◌≤◌, ◌<◌, length, get_or, drop, eqb, Ok, Result, Err}
 use Rattle.std.proofs.Math.Path.{sym, ap}
 use Rattle.std.proofs.Common.{◌∙◌, subst, arith}
 use Rattle.std.proofs.Math.Bool.{not}
@@ -31,7 +31,6 @@ use Rattle.judge.specs.Call.{Call, file_of, judging_of, words_judged, marks_judg
 use Rattle.answers.specs.Card.{code_of}
 use Rattle.answers.specs.Listing.{refused_at, refused_before}
 use Rattle.judge.specs.SoundLaws.{check_shows, judged}
-use Rattle.answers.specs.declared.answer.Answer.TheVariants.{Answered}
 use Rattle.answers.specs.declared.answer.Summary.{Summary}
 use Rattle.promises.specs.AnsweredLaws.{shows, marks_then_lem, out_then, written_is}
 use Rattle.promises.specs.LeftLaws.{line_recorded}
@@ -39,7 +38,7 @@ use Rattle.promises.specs.RefusalsLaws.{Placed, placed, numbered, in_order}
 use Rattle.promises.specs.Written.{refusal_of, line_shown, code_shown, values_of_tic, tic_written}
 use Rattle.promises.specs.WrittenLaws.{written_sound, refused_count, lines_count, words_count, words_long, number_is}
 
-module _ (c : Call) (records : List Record) (marks' : List ℕ) (records' : List Record) (out' : List ℕ) (s : Summary) (j : Judged c records (Answered s) marks' records' out') where
+module _ (c : Call) (records : List Record) (marks' : List ℕ) (records' : List Record) (out' : List ℕ) (s : Summary) (j : Judged c records (Ok s) marks' records' out') where
   -- ---- all is the definitions'
   -- what is told is the summary of the lines judged; the marks are those after them; the TIC stands in front of the output, and past it nothing changed;
   -- each line judged has its record, and past the last one nothing changed

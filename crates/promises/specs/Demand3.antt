@@ -2,7 +2,7 @@
 -- and the records lent, the answer r, and the marks, records and output afterwards. Lines and places of debits are counted from 0 here, the number
 -- of a debit in a record from 1. The two statements for one call come first, each in words and then as a type: 1 is proved by `credits_decided` and 2 by
 -- `marks_follow_records`, below them. Those over sequences of calls are in Demand3Sequence. Assumes nothing.
-use Rattle.std.specs.Prelude.{◌≡◌, refl, Bool, true, List, [], ℕ, ◌+◌, ◌-◌, ◌≤◌, ◌<◌, length, get_or, Ok, Err}
+use Rattle.std.specs.Prelude.{◌≡◌, refl, Bool, true, List, [], ℕ, ◌+◌, ◌-◌, ◌≤◌, ◌<◌, length, get_or, Err, Ok}
 use Rattle.std.proofs.Common.{sym, ap, ◌∙◌, arith}
 use Rattle.tif.specs.Acceptance.{Acceptance}
 use Rattle.tif.specs.Body.{line_at}
@@ -25,8 +25,7 @@ use Rattle.verdicts.specs.declared.verdict.Verdict.TheVariants.{Credits, WrongTy
 use Rattle.judging.specs.Judging.{Judging, known_on, reaches_at, marks_before, verdict_at}
 use Rattle.judging.specs.Marks.{debit_of, debit_file_keeps}
 use Rattle.judge.specs.Call.{Call, file_of, judging_of, lines_of, lines_to_judge, lines_to_record, answer_of, Judged}
-use Rattle.answers.specs.declared.answer.Answer.{Answer}
-use Rattle.answers.specs.declared.answer.Answer.TheVariants.{Refused, Answered}
+use Rattle.answers.specs.Answer.{Answer}
 use Rattle.answers.specs.declared.answer.Summary.{Summary}
 use Rattle.promises.specs.Demand3Laws.{reaches_is, accepted_reaches, refused_reaches, accepted_verdict, refused_verdict, carrying, taking_is, marked_then, unmarked_first, unchanged}
 use Rattle.promises.specs.LeftLaws.{answered_lines, verdict_recorded, marks_left}
@@ -72,7 +71,7 @@ pub record Decided (c : Call) (lines : ℕ) (records' : List Record) (k : ℕ) :
 
 abbrev pub CreditsDecided : Type 0
 CreditsDecided = (c : Call) (records : List Record) (s : Summary) (marks' : List ℕ) (records' : List Record) (out' : List ℕ)
-    → Judged c records (Answered s) marks' records' out' → (k : ℕ) → PassesOthers c k → Decided c s.lines records' k
+    → Judged c records (Ok s) marks' records' out' → (k : ℕ) → PassesOthers c k → Decided c s.lines records' k
 
 -- ---- 2. After a call with any answer the marks differ from those before at the debits that the records carry, and only there; a record carries a
 -- debit, or L8, only for a credit that passes the other checks.
@@ -113,8 +112,8 @@ passes_reaching c k h reach = go (answer_of c) refl
     file l (Err f) e = let n : lines_of c ≡ 0 = ap lines_to_judge e in absurd (omega (arith, l, n))
 
     go : (a : Answer) → answer_of c ≡ a → PassesOthers c k
-    go (Refused f) e = let z : lines_to_record (answer_of c) ≡ 0 = ap lines_to_record e in absurd (omega (arith, h, z))
-    go (Answered s) e = let z : lines_to_record (answer_of c) ≡ lines_of c = ap lines_to_record e ∙ answered_lines c s e in file (omega (arith, h, z)) (file_of c) refl
+    go (Err f) e = let z : lines_to_record (answer_of c) ≡ 0 = ap lines_to_record e in absurd (omega (arith, h, z))
+    go (Ok s) e = let z : lines_to_record (answer_of c) ≡ lines_of c = ap lines_to_record e ∙ answered_lines c s e in file (omega (arith, h, z)) (file_of c) refl
 
 reaches_passing : (c : Call) (k : ℕ) → PassesOthers c k → reaches_at (judging_of c) k ≡ true
 unfolding reaches_at
@@ -181,7 +180,7 @@ module _ (c : Call) (records : List Record) (r : Answer) (marks' : List ℕ) (re
 pub credits_decided : CreditsDecided
 credits_decided c records s marks' records' out' left k p =
     let lines : s.lines ≡ p.whole.lines = answered_lines c s (sym left.answer) ∙ ap lines_to_judge p.line_by_line in
-    decided c records (Answered s) marks' records' out' left k (omega (arith, p.there, lines)) p
+    decided c records (Ok s) marks' records' out' left k (omega (arith, p.there, lines)) p
 
 pub marks_follow_records : MarksFollowRecords
 marks_follow_records = follow

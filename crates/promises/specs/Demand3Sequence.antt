@@ -25,7 +25,7 @@ use Rattle.verdicts.specs.declared.verdict.Verdict.TheVariants.{Credits}
 use Rattle.judging.specs.Judging.{reaches_at, verdict_at}
 use Rattle.judging.specs.Marks.{debit_of}
 use Rattle.judge.specs.Call.{Call, call_of, judging_of, lines_to_record, answer_of, marks_of, out_of, records_of, Judged}
-use Rattle.answers.specs.declared.answer.Answer.{Answer}
+use Rattle.answers.specs.Answer.{Answer}
 use Rattle.promises.specs.Demand3.{verdict_in, marks_follow_records, verdict_left, marks_then_lem}
 use Rattle.promises.specs.Demand3Laws.{accepted_verdict, carried_number}
 

@@ -1,11 +1,10 @@
 -- A program that judges the first file and answers later ones with what it had then: the contract refuses it for its answer and, over a sequence on
 -- marks that are handed on, for the marks. Results are taken as they come, however the program comes by them. Assumes nothing.
-use Rattle.std.specs.Prelude.{◌≡◌, refl, List, [], ◌∷◌, ℕ, length, get_or}
+use Rattle.std.specs.Prelude.{◌≡◌, refl, List, [], ◌∷◌, ℕ, length, get_or, Ok}
 use Rattle.std.proofs.Common.{sym, ap, ◌∙◌, arith}
 use Rattle.verdicts.specs.declared.record.Record.{Record}
 use Rattle.verdicts.specs.declared.verdict.Verdict.TheVariants.{NotCovered}
 use Rattle.judge.specs.Call.{Call, answer_of, marks_of}
-use Rattle.answers.specs.declared.answer.Answer.TheVariants.{Answered}
 use Rattle.promises.specs.WorkedCall.{worked_call}
 use Rattle.promises.specs.WorkedFile.{record_with}
 use Rattle.promises.specs.WorkedCredits.{credit_call, credit_accepted, credit_refused, credit_answers, credit_marks}
@@ -72,10 +71,10 @@ module _ (first second third : Result) (t : ThreeFiles first second third) where
   second_marks = t.two.marks_then ∙ ap (λ (marks : List ℕ). marks_of (credit_call 2 marks)) first_marks ∙ credit_marks.1
 
   -- both are answered alike, so the answers do not tell a program that copies from one that judges,
-  pub first_answer : first.answer ≡ Answered credit_accepted
+  pub first_answer : first.answer ≡ Ok credit_accepted
   first_answer = t.one.answer ∙ credit_answers.0
 
-  pub second_answer : second.answer ≡ Answered credit_accepted
+  pub second_answer : second.answer ≡ Ok credit_accepted
   second_answer = t.two.answer ∙ ap (λ (marks : List ℕ). answer_of (credit_call 2 marks)) first_marks ∙ credit_answers.1
 
   -- but the marks do: those of the first file again are refused
@@ -85,7 +84,7 @@ module _ (first second third : Result) (t : ThreeFiles first second third) where
       absurd (omega arith)
 
   -- the third file finds no debit left: its credit is L8, and the first file's answer again is refused
-  pub third_answer : third.answer ≡ Answered credit_refused
+  pub third_answer : third.answer ≡ Ok credit_refused
   third_answer = t.three.answer ∙ ap (λ (marks : List ℕ). answer_of (credit_call 3 marks)) second_marks ∙ credit_answers.2
 
   pub copied_credit : third.answer ≡ first.answer → ⊥

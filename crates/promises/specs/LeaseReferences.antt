@@ -20,8 +20,8 @@ use Rattle.judge.specs.Call.{Call, call_of, check_of, file_of, judging_of, lines
 use Rattle.answers.specs.Fault.{check_lent, check_call}
 use Rattle.answers.specs.Listing.{tic_of}
 use Rattle.judge.specs.Records.{records_to}
-use Rattle.answers.specs.declared.answer.Answer.{Answer}
-use Rattle.answers.specs.declared.answer.CallCheck.{CallCheck}
+use Rattle.answers.specs.Answer.{Answer}
+use Rattle.answers.specs.Answer.{CallCheck}
 use Rattle.answers.specs.declared.answer.Summary.{Summary}
 use Rattle.promises.specs.LeaseReferencesLaws.{lease_byte, same_marks, same_verdict, same_words}
 

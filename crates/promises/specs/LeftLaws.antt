@@ -1,5 +1,5 @@
 -- What a call leaves: the record of each line judged holds the verdict on it, and the marks are those after the lines. Assumes nothing.
-use Rattle.std.specs.Prelude.{◌≡◌, Bool, true, false, List, [], ◌∷◌, ℕ, zero, suc, ◌+◌, ◌<◌, length, drop}
+use Rattle.std.specs.Prelude.{◌≡◌, Bool, true, false, List, [], ◌∷◌, ℕ, zero, suc, ◌+◌, ◌<◌, length, drop, Err, Ok}
 use Rattle.std.proofs.Math.Path.{refl, ap}
 use Rattle.std.proofs.Common.{sym, ◌∙◌, not-suc-le-zero, add-one, arith, length-append}
 use Rattle.std.proofs.Math.Bool.{cond}
@@ -18,9 +18,8 @@ use Rattle.judge.specs.Call.{Call, check_of, judging_of, lines_of, words_judged,
 use Rattle.judge.specs.CoreLaws.{words_length}
 use Rattle.judge.specs.Records.{record_at, records_to}
 use Rattle.judge.specs.SoundLaws.{check_shows}
-use Rattle.answers.specs.declared.answer.Answer.{Answer}
-use Rattle.answers.specs.declared.answer.Answer.TheVariants.{Refused, Answered}
-use Rattle.answers.specs.declared.answer.CallCheck.{CallCheck}
+use Rattle.answers.specs.Answer.{Answer}
+use Rattle.answers.specs.Answer.{CallCheck}
 use Rattle.answers.specs.declared.answer.Summary.{Summary}
 
 records_long : (tif words : List ℕ) (n : ℕ) → length (records_to tif words n) ≡ n
@@ -38,29 +37,29 @@ records_at tif words none (suc n) k h =
 
 -- what it shows that a call is answered: E1 to E6 and E8 let it pass, there is room, and what is told is the summary of the lines judged
 pub record Shown (c : Call) (s : Summary) : Type 0 where
-  pub sound : check_of c ≡ CallCheck.Sound
+  pub sound : check_of c ≡ Ok tt
   pub roomy : too_small (summary_of c) c.room (length c.out) ≡ false
   pub told : s ≡ summary_of c
 
-pub answered_shows : (c : Call) (s : Summary) → answer_of c ≡ Answered s → Shown c s
+pub answered_shows : (c : Call) (s : Summary) → answer_of c ≡ Ok s → Shown c s
 unfolding answer_of
 answered_shows c s e = go (check_of c) refl (too_small (summary_of c) c.room (length c.out)) refl
   where
     go : (x : CallCheck) → check_of c ≡ x → (small : Bool) → too_small (summary_of c) c.room (length c.out) ≡ small → Shown c s
-    go (CallCheck.Faulty f) h small t =
-        let z : Refused f ≡ Answered s = sym (rw h) ∙ e in
+    go (Err f) h small t =
+        let z : Err f ≡ Ok s = sym (rw h) ∙ e in
         let y : ◌≡◌ {A = ℕ} 0 1 = cc in
         absurd (omega arith)
-    go CallCheck.Sound h true t =
+    go (Ok tt) h true t =
         let y : ◌≡◌ {A = ℕ} 0 1 = cc in
         absurd (omega arith)
-    go CallCheck.Sound h false t =
-        let z : Answered (summary_of c) ≡ Answered s = sym (rw (h, t)) ∙ e in
+    go (Ok tt) h false t =
+        let z : Ok (summary_of c) ≡ Ok s = sym (rw (h, t)) ∙ e in
         record { sound = h; roomy = t; told = cc }
 
 module _ (c : Call) where
   -- a record for each line judged
-  pub answered_lines : (s : Summary) → answer_of c ≡ Answered s → s.lines ≡ lines_of c
+  pub answered_lines : (s : Summary) → answer_of c ≡ Ok s → s.lines ≡ lines_of c
   unfolding summary_of words_judged
   answered_lines s e = ap (λ (x : Summary). x.lines) (answered_shows c s e).told ∙ words_length (judging_of c) c.marks (lines_of c)
 
@@ -71,8 +70,8 @@ module _ (c : Call) where
   line_recorded records none k h = go (answer_of c) refl
     where
       go : (a : Answer) → answer_of c ≡ a → get_or (records_of c records) k none ≡ record_of (line_at c.tif k) (k + 1) (verdict_at (judging_of c) c.marks k)
-      go (Refused f) e = let z : lines_to_record (answer_of c) ≡ 0 = ap lines_to_record e in absurd (omega (arith, h, z))
-      go (Answered s) e =
+      go (Err f) e = let z : lines_to_record (answer_of c) ≡ 0 = ap lines_to_record e in absurd (omega (arith, h, z))
+      go (Ok s) e =
           let n = lines_to_record (answer_of c) in
           let m : n ≡ lines_of c = ap lines_to_record e ∙ answered_lines s e in
           let sound = check_shows c (answered_shows c s e).sound in
@@ -91,5 +90,5 @@ module _ (c : Call) where
   marks_left = go (answer_of c) refl
     where
       go : (a : Answer) → answer_of c ≡ a → cond (is_answered a) (marks_judged c) c.marks ≡ marks_before (judging_of c) c.marks (lines_to_record a)
-      go (Refused f) e = refl
-      go (Answered s) e = ap (marks_before (judging_of c) c.marks) (sym (answered_lines s e))
+      go (Err f) e = refl
+      go (Ok s) e = ap (marks_before (judging_of c) c.marks) (sym (answered_lines s e))

@@ -16,7 +16,7 @@ use Rattle.judging.specs.Judging.{is_credit_file, cover_on, accepted_by, taken_o
 use Rattle.judging.proofs.WordLaws.{unlent_number}
 use Rattle.answers.specs.Card.{is_card}
 use Rattle.answers.specs.Fault.{lent_rows, check_lent, call_rows, check_call}
-use Rattle.answers.specs.declared.answer.CallCheck.{CallCheck}
+use Rattle.answers.specs.Answer.{CallCheck}
 use Rattle.judge.specs.Call.{Call, check_of, judging_of}
 
 -- a list of tests with the one at place n, counted from 0, left out
@@ -25,7 +25,7 @@ left_out n rows = take n rows ++ drop (n + 1) rows
 
 module _ (c : Call) (none : c.tst ≡ []) where
   -- E1 to E6: the row of E8 is the third of those of what is lent
-  pub checked_as_before : check_of c ≡ first_of (call_rows c.name c.received c.card c.names []) (first_of (left_out 2 (lent_rows c.book c.debits c.marks [])) CallCheck.Sound)
+  pub checked_as_before : check_of c ≡ first_of (call_rows c.name c.received c.card c.names []) (first_of (left_out 2 (lent_rows c.book c.debits c.marks [])) (Ok tt))
   unfolding check_call check_lent first_of is_lent table_sound
   checked_as_before = rw none
 

@@ -16,7 +16,7 @@ use Rattle.judging.specs.Steps.{Judged as LineJudged, AllJudged}
 use Rattle.tic.specs.Rewriting.{Rewrites}
 use Rattle.tic.specs.declared.rewriting.RewriteFault.{RewriteFault}
 use Rattle.judge.specs.Call.{Call, WordsJudged, Judged}
-use Rattle.answers.specs.declared.answer.Answer.{Answer}
+use Rattle.answers.specs.Answer.{Answer}
 
 -- ---- the answer alone, nothing being lent for writing
 -- a contract `r ≡ definition`: that of most functions

@@ -44,8 +44,7 @@ use Rattle.tst.specs.Form.{is_lent, table_sound}
 use Rattle.tst.specs.Stations.{is_known_station}
 use Rattle.answers.specs.Card.{is_card}
 use Rattle.answers.specs.Fault.{check_lent, check_call}
-use Rattle.answers.specs.declared.answer.Answer.TheVariants.{Answered}
-use Rattle.answers.specs.declared.answer.CallCheck.{CallCheck}
+use Rattle.answers.specs.Answer.{CallCheck}
 use Rattle.answers.specs.declared.answer.FileAnswer.TheVariants.{Accepted, PartlyAccepted}
 use Rattle.answers.specs.declared.answer.Summary.{Summary}
 use Rattle.promises.specs.WorkedCall.{Passing, line_with, header_with, footer_with, row_of, tif_with, known_pan, first_passing, worked_card}
@@ -114,7 +113,7 @@ credit_refused = record {
 
 -- ---- step by step
 -- no call number
-sound : (check_of first_call ≡ CallCheck.Sound) × (check_of second_call ≡ CallCheck.Sound) × (check_of third_call ≡ CallCheck.Sound)
+sound : (check_of first_call ≡ Ok tt) × (check_of second_call ≡ Ok tt) × (check_of third_call ≡ Ok tt)
 unfolding check_call check_lent is_lent table_sound first_of is_name is_file_stem every is_actor is_sequence all_digits number_of value_below big_endian all_of all_bytes all_below byte_is is_of is_digit is_capital same first_difference differ_at first_below some_below is_date check_date date_fault days_in is_leap is_moment check_moment time_fault is_card names_whole book_sound head_sound entries_sound bodies_sound agreements body_place debits_sound count_fits lines_sound debit_sound_at debit_sound is_debit_type marks_sound mark_sound_at line_of line_with joined zeros blanks digits_of
 sound = (refl, refl, refl)
 
@@ -146,7 +145,7 @@ unfolding words_of table_below word_at verdict_at verdict_on is_lent is_known_st
 verdicts = (refl, refl, refl)
 
 -- ---- the answers: two acceptances with the same figures, then one refusal
-pub credit_answers : (answer_of first_call ≡ Answered credit_accepted) × (answer_of second_call ≡ Answered credit_accepted) × (answer_of third_call ≡ Answered credit_refused)
+pub credit_answers : (answer_of first_call ≡ Ok credit_accepted) × (answer_of second_call ≡ Ok credit_accepted) × (answer_of third_call ≡ Ok credit_refused)
 unfolding judged_answer count_of total_of amount_of one_at is_counted is_accepted sum_below amount_at number_of value_below side_of first_of same first_difference differ_at first_below some_below line_of tif_with header_with footer_with row_of line_with join_below joined zeros blanks digits_of
 credit_answers = (
   answer_is first_call one_line (word_of (Credits 1) ∷ []) sound.0 (judged 1 (0 ∷ 0 ∷ []) counted.0) verdicts.0 ∙ refl,

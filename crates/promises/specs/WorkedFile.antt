@@ -51,9 +51,8 @@ use Rattle.answers.specs.Card.{is_card, code_of}
 use Rattle.answers.specs.Fault.{check_lent, check_call}
 use Rattle.answers.specs.Listing.{refused_before, is_refusal, refused_place, tic_of}
 use Rattle.judge.specs.Records.{record_at, records_to}
-use Rattle.answers.specs.declared.answer.CallCheck.{CallCheck}
-use Rattle.answers.specs.declared.answer.Answer.{Answer}
-use Rattle.answers.specs.declared.answer.Answer.TheVariants.{Answered}
+use Rattle.answers.specs.Answer.{CallCheck}
+use Rattle.answers.specs.Answer.{Answer}
 use Rattle.answers.specs.declared.answer.FileAnswer.TheVariants.{PartlyAccepted}
 use Rattle.answers.specs.declared.answer.Summary.{Summary}
 use Rattle.job_line.specs.Line.{digit_count, decimal, after_blank, head_text, counts_text, amounts_text, summary_text, answer_text}
@@ -124,7 +123,7 @@ told : summary_for (Ok three_lines) worked_tif worked_words ≡ worked_summary
 unfolding judged_answer count_of total_of amount_of one_at is_counted is_accepted sum_below amount_at number_of value_below side_of first_of same first_difference differ_at first_below some_below line_of tif_with header_with footer_with row_of line_with join_below joined zeros blanks digits_of
 told = refl
 
-printed : answer_text (Answered worked_summary) ≡ worked_line
+printed : answer_text (Ok worked_summary) ≡ worked_line
 unfolding summary_text head_text counts_text amounts_text after_blank decimal digit_count digits_of
 printed = refl
 
@@ -139,7 +138,7 @@ filled = refl
 -- ---- the call, with three records or more and room for the TIC
 module _ (room : ℕ) (out : List ℕ) where
   -- no call number
-  sound : check_of (worked_with room out) ≡ CallCheck.Sound
+  sound : check_of (worked_with room out) ≡ Ok tt
   unfolding check_call check_lent is_lent table_sound first_of is_name is_file_stem every is_actor is_sequence all_digits number_of value_below all_of all_bytes all_below byte_is is_of is_digit is_capital same first_difference differ_at first_below some_below is_date check_date date_fault days_in is_leap is_moment check_moment time_fault is_card names_whole book_sound head_sound entries_sound entry_sound_at rises_at bodies_sound agreement_sound_at agreement_sound lease_sound periods_sound period_sound_at follows_at period_form end_form agreements pan_of offset_of body_head periods_at period_of body_end body_place place_of padded_with filled_with big_endian line_of before all_plate_bytes padded_plate is_filled two_of plate_in_book is_small is_marked_letter is_plate_byte debits_sound count_fits lines_sound marks_sound digits_of
   sound = refl
 
@@ -151,7 +150,7 @@ module _ (room : ℕ) (out : List ℕ) where
   verdicts = refl
 
   module _ (enough : 3 ≤ room) (long : 1136 ≤ length out) where
-    pub worked_answer : answer_of (worked_with room out) ≡ Answered worked_summary
+    pub worked_answer : answer_of (worked_with room out) ≡ Ok worked_summary
     worked_answer =
         let a : ltb (length out) 1136 ≡ false = omega tests in
         let b : ltb room 3 ≡ false = omega tests in
@@ -174,7 +173,7 @@ module _ (room : ℕ) (out : List ℕ) where
 
 -- ---- what the contract of the call says of the worked file: the answer, and how it is printed; the TIC in front of the output, its header the pieces of 01 joined; the records
 pub record AsWorked (out : List ℕ) (records : List Record) (r : Answer) (marks' : List ℕ) (records' : List Record) (out' : List ℕ) : Type 0 where
-  pub answer : r ≡ Answered worked_summary
+  pub answer : r ≡ Ok worked_summary
   pub line : answer_text r ≡ worked_line
   pub header : take 196 out' ≡ worked_header
   pub tic : out' ≡ splice out 0 worked_tic

@@ -26,8 +26,7 @@ use Rattle.answers.specs.Told.{summary_for, head_of, sums_of}
 use Rattle.judge.specs.Call.{Call, check_of, file_of, judging_of, words_judged, marks_judged, summary_of, tic_of_call, answer_sound, answer_of, marks_of, out_of, records_of}
 use Rattle.answers.specs.Listing.{tic_of}
 use Rattle.judge.specs.Records.{records_to}
-use Rattle.answers.specs.declared.answer.Answer.TheVariants.{Answered}
-use Rattle.answers.specs.declared.answer.CallCheck.{CallCheck}
+use Rattle.answers.specs.Answer.{CallCheck}
 use Rattle.answers.specs.declared.answer.Summary.{Summary}
 use Rattle.promises.specs.WorkedCall.{Passing, line_pieces, line_with, header_pieces, header_with, footer_pieces, footer_with, row_of, tif_with}
 
@@ -98,7 +97,7 @@ file_by name names tif lines e = ap (λ (l : Option ℕ). acceptance_with l name
 
 -- ---- the steps of a call that is sound, of a file that is judged, with these words
 module _ (c : Call) (w : Whole) (words : List ℕ)
-    (checked : check_of c ≡ CallCheck.Sound) (filed : file_of c ≡ Ok w) (worded : words_of (judging_of c) c.marks w.lines ≡ words) where
+    (checked : check_of c ≡ Ok tt) (filed : file_of c ≡ Ok w) (worded : words_of (judging_of c) c.marks w.lines ≡ words) where
   words_are : words_judged c ≡ words
   unfolding words_judged
   words_are = rw filed worded
@@ -115,7 +114,7 @@ module _ (c : Call) (w : Whole) (words : List ℕ)
   answer_is = rw checked (ap (λ (s : Summary). answer_sound s c.room (length c.out)) told_is)
 
   -- where there is room
-  module _ (s : Summary) (answered : answer_of c ≡ Answered s) where
+  module _ (s : Summary) (answered : answer_of c ≡ Ok s) where
     pub marks_are : marks_of c ≡ marks_before (judging_of c) c.marks w.lines
     unfolding marks_of marks_judged
     marks_are = rw (answered, filed)

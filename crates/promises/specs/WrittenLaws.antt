@@ -53,7 +53,7 @@ use Rattle.answers.specs.Card.{verdicts_in_use, is_card, code_of}
 use Rattle.judge.specs.CoreLaws.{words_length}
 use Rattle.answers.specs.Listing.{number_at, refused_at, Worded}
 use Rattle.judge.specs.SoundLaws.{CallSound, check_shows, judged, list_ready}
-use Rattle.answers.specs.declared.answer.CallCheck.{CallCheck}
+use Rattle.answers.specs.Answer.{CallCheck}
 use Rattle.answers.specs.declared.answer.FileAnswer.{FileAnswer}
 use Rattle.promises.specs.RefusalsLaws.{placed, refused_total, none_accepted}
 use Rattle.promises.specs.Written.{refusal_of, line_shown, code_shown, values_of_tic}
@@ -246,7 +246,7 @@ module _ (c : Call) (s : CallSound c) (code : ℕ) (from : 2 ≤ code) (to : cod
       }
 
 -- ---- every call
-pub written_sound : (c : Call) → check_of c ≡ CallCheck.Sound → Sound (values_of_tic c)
+pub written_sound : (c : Call) → check_of c ≡ Ok tt → Sound (values_of_tic c)
 written_sound c sound = go (file_of c) refl
   where
     s : CallSound c
@@ -259,6 +259,6 @@ written_sound c sound = go (file_of c) refl
     go (Err FileFault.TotalDiffers) e = whole_sound c s 4 (omega arith) (omega arith) (ap lines_to_judge e) (λ y. ap (λ (a : Acceptance). answer_code (file_answer a y)) e)
     go (Err FileFault.OutOfForm) e = whole_sound c s 5 (omega arith) (omega arith) (ap lines_to_judge e) (λ y. ap (λ (a : Acceptance). answer_code (file_answer a y)) e)
 
-pub written_length : (c : Call) → check_of c ≡ CallCheck.Sound → length (tic_text (values_of_tic c)) ≡ (summary_of c).length
+pub written_length : (c : Call) → check_of c ≡ Ok tt → length (tic_text (values_of_tic c)) ≡ (summary_of c).length
 unfolding summary_of
 written_length c sound = tic_length_lem (values_of_tic c) (wide (values_of_tic c) (written_sound c sound)) ∙ omega arith

@@ -1,5 +1,5 @@
 -- Wrong programs, each with a call on which the contract refuses it: always E7, always 00, writing nothing, invented counts. Assumes nothing.
-use Rattle.std.specs.Prelude.{◌≡◌, refl, Bool, true, false, List, [], ◌∷◌, ℕ, length, get_or, replicate}
+use Rattle.std.specs.Prelude.{◌≡◌, refl, Bool, true, false, List, [], ◌∷◌, ℕ, length, get_or, replicate, Err, Ok}
 use Rattle.std.proofs.Common.{sym, ap, ◌∙◌, true≢false, arith}
 use Rattle.std.proofs.lemmas.Bool.{false≢true}
 use Rattle.std.proofs.lemmas.List.{length-replicate}
@@ -29,8 +29,7 @@ use Rattle.judge.specs.Call.{Call, words_judged, summary_of, answer_of, is_answe
 use Rattle.tst.specs.Form.{is_lent, table_sound}
 use Rattle.answers.specs.Card.{is_card}
 use Rattle.answers.specs.Fault.{check_lent, check_call}
-use Rattle.answers.specs.declared.answer.Answer.{Answer}
-use Rattle.answers.specs.declared.answer.Answer.TheVariants.{Refused, Answered}
+use Rattle.answers.specs.Answer.{Answer}
 use Rattle.answers.specs.declared.answer.CallFault.TheVariants.{Room}
 use Rattle.answers.specs.declared.answer.FileAnswer.{FileAnswer}
 use Rattle.answers.specs.declared.answer.FileAnswer.TheVariants.{Accepted, PartlyAccepted, AlreadyReceived, CountsDiffer, TotalDiffers, OutOfForm}
@@ -81,7 +80,7 @@ pub not_all_refused : (c : Call) (records : List Record) → Allowed c records (
 not_all_refused = answered_always
 
 -- ---- the worked call: three records, and room for its TIC
-pub worked_is : answer_of worked_call ≡ Answered worked_summary
+pub worked_is : answer_of worked_call ≡ Ok worked_summary
 worked_is = worked_answer 3 (replicate 1136 0) (omega arith) (omega arith)
 
 -- a second call beside it: an empty TIF, the smallest book, and room for a TIC without lines
@@ -101,12 +100,12 @@ empty_call = record {
 }
 
 -- it is answered 05
-pub empty_answer : answer_of empty_call ≡ Answered (refused_file OutOfForm [])
+pub empty_answer : answer_of empty_call ≡ Ok (refused_file OutOfForm [])
 unfolding answer_of summary_of words_judged words_of table_below count_of total_of sum_below acceptance_of framed_lines is_received side_of check_call check_lent is_lent table_sound first_of is_name is_file_stem every is_actor is_sequence all_digits number_of value_below big_endian all_of all_bytes all_below byte_is is_of is_digit is_capital same first_difference differ_at first_below some_below is_date check_date date_fault days_in is_leap is_moment check_moment time_fault is_card names_whole book_sound head_sound entries_sound bodies_sound agreements body_place debits_sound count_fits lines_sound marks_sound digits_of
 empty_answer = refl
 
 -- ---- always E7: refused on the worked call, which has room
-pub always_e7 : (p : Program) → Always p (λ c r. r.answer ≡ Refused Room) → RefusedOn p worked_call
+pub always_e7 : (p : Program) → Always p (λ c r. r.answer ≡ Err Room) → RefusedOn p worked_call
 always_e7 p e7 records fits j = false≢true (ap is_answered (sym (e7 worked_call records fits) ∙ j.answer ∙ worked_is))
 
 -- ---- always 00: refused on the worked call, whose second line is L7
@@ -119,8 +118,8 @@ is00 TotalDiffers = false
 is00 OutOfForm = false
 
 abbrev pub gives00 : Answer → Bool
-gives00 (Refused fault) = false
-gives00 (Answered s) = is00 s.answer
+gives00 (Err fault) = false
+gives00 (Ok s) = is00 s.answer
 
 -- with whatever figures beside it
 pub always_00 : (p : Program) → Always p (λ c r. gives00 r.answer ≡ true) → RefusedOn p worked_call
@@ -136,8 +135,8 @@ writing_nothing p keeps records fits j =
 -- ---- invented counts
 -- the six numbers that are told: lines, accepted, refused, total, accepted amount, refused amount; none with an E
 abbrev pub numbers_told : Answer → List ℕ
-numbers_told (Refused fault) = []
-numbers_told (Answered s) = s.lines ∷ s.accepted ∷ s.refused ∷ s.total.0 ∷ s.accepted_amount.0 ∷ s.refused_amount.0 ∷ []
+numbers_told (Err fault) = []
+numbers_told (Ok s) = s.lines ∷ s.accepted ∷ s.refused ∷ s.total.0 ∷ s.accepted_amount.0 ∷ s.refused_amount.0 ∷ []
 
 -- on any call, numbers other than those of the definitions are refused
 pub invented_counts : (p : Program) (c : Call) → ((records : List Record) → Fits c records → numbers_told (p c records).answer ≡ numbers_told (answer_of c) → ⊥) → RefusedOn p c
@@ -149,8 +148,8 @@ invented_worked p other records fits j = other records fits (ap numbers_told (j.
 
 -- how many are accepted and how many refused
 abbrev pub counts_told : Answer → List ℕ
-counts_told (Refused fault) = []
-counts_told (Answered s) = s.accepted ∷ s.refused ∷ []
+counts_told (Err fault) = []
+counts_told (Ok s) = s.accepted ∷ s.refused ∷ []
 
 -- the same counts for every file, whichever they are: refused on the worked call, which has 2 and 1, or on the empty one, which has 0 and 0
 pub fixed_counts : (p : Program) (counts : List ℕ) → Always p (λ c r. counts_told r.answer ≡ counts) → RefusedOnOne p worked_call empty_call

@@ -12,13 +12,16 @@ side_text Credit = 67 ∷ 82 ∷ 69 ∷ []
 side_text Debit = 68 ∷ 69 ∷ 66 ∷ []
 side_text Neither = 48 ∷ 48 ∷ 48 ∷ []
 
+-- the side that a text names, and neither where it is another text
+abbrev pub text_rows : List ℕ → List (Row Side)
+text_rows text = (same text (side_text Credit) ⇒ Credit) ∷ (same text (side_text Debit) ⇒ Debit) ∷ []
+
+unfoldable pub side_in : List ℕ → Side
+side_in text = first_of (text_rows text) Neither
+
 -- bytes 74 to 76 of the file, whatever its length or line feeds; missing in fewer than 76 bytes
 abbrev pub side_rows : List ℕ → List (Row Side)
-side_rows tif =
-    (ltb (length tif) 76 ⇒ Neither)
-    ∷ (same (header_side tif) (side_text Credit) ⇒ Credit)
-    ∷ (same (header_side tif) (side_text Debit) ⇒ Debit)
-    ∷ []
+side_rows tif = (ltb (length tif) 76 ⇒ Neither) ∷ text_rows (header_side tif)
 
 unfoldable pub side_of : List ℕ → Side
 side_of tif = first_of (side_rows tif) Neither

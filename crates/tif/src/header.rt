@@ -21,7 +21,8 @@ pub struct Counts {
 // A name of fewer bytes has no receiver.
 const RECEIVER_END: usize = 28;
 
-const NOK: [u8; 3] = [78, 79, 75];
+// The one currency.
+pub const NOK: [u8; 3] = *b"NOK";
 
 // Whether the header begins as one, and has sender, receiver and sequence as the file's name has them.
 #[tactic(auto, unfolding(crate::specs::Header::names_file, crate::specs::Every::every))]

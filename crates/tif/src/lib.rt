@@ -14,9 +14,11 @@ mod side;
 pub use acceptance::{FileFault, Whole, acceptance_of};
 pub use body::line_amount;
 pub use columns::TIF;
+pub use header::NOK;
 pub use name::{
-    NAME_IDENTITY, NAME_RECEIVER, NAME_SENDER, NAME_STEM, is_actor, is_file_stem, is_name,
+    NAME_IDENTITY, NAME_RECEIVER, NAME_SENDER, NAME_STEM, TIF_KIND, VERSION, is_actor,
+    is_file_stem, is_name,
 };
 pub use reader::{Reader, moved_on, reader_at, shown, tif_line};
 pub use received::{is_received, names_whole};
-pub use side::{Side, is_sided, side_of};
+pub use side::{Side, is_sided, side_in, side_of};

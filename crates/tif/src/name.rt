@@ -31,9 +31,9 @@ const FIRST_JOINT: usize = 21;
 const SECOND_JOINT: usize = 28;
 
 // The kind of file and the version that every name and header carries.
-pub const TIF_KIND: [u8; 3] = [84, 73, 70];
+pub const TIF_KIND: [u8; 3] = *b"TIF";
 
-pub const VERSION: [u8; 6] = [49, 51, 48, 48, 48, 49];
+pub const VERSION: [u8; 6] = *b"130001";
 
 // Whether the text is an actor: six digits or capitals.
 #[tactic(auto, unfolding(crate::specs::Name::is_actor))]

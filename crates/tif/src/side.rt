@@ -1,47 +1,60 @@
 ghost use Rattle.std.specs.Prelude.{◌≡◌};
-ghost use Rattle.tif.specs.Side.{side_of, is_sided};
+ghost use Rattle.tif.specs.Side.{side_text, side_in, side_of, is_sided};
 
 use crate::columns::SIDE;
 use lines::{field, is_same};
 
 // Which side of the account a file is for.
-#[derive(Clone, Copy)]
+#[derive(Clone, Copy, PartialEq, Eq)]
 pub enum Side {
     Credit,
     Debit,
     Neither,
 }
 
+impl Side {
+    // The text that names the side, and zeros where there is none.
+    pub fn text(self) -> &'static [u8]
+        ensures { result.now ≡ side_text self }
+    {
+        match self {
+            Side::Credit => b"CRE",
+            Side::Debit => b"DEB",
+            Side::Neither => b"000",
+        }
+    }
+}
+
 // A file of fewer bytes has no side.
 const SIDE_END: usize = 76;
 
-const CREDIT: [u8; 3] = [67, 82, 69];
-
-const DEBIT: [u8; 3] = [68, 69, 66];
+// The side that a text names, and neither where it is another text.
+#[tactic(auto, unfolding(crate::specs::Side::side_in, lines::specs::FirstOf::first_of))]
+pub fn side_in(text: &[u8]) -> Side
+    ensures { result ≡ side_in text.now }
+{
+    if is_same(text, Side::Credit.text()) {
+        Side::Credit
+    } else if is_same(text, Side::Debit.text()) {
+        Side::Debit
+    } else {
+        Side::Neither
+    }
+}
 
 // The side that columns 74 to 76 name, and neither where they hold another text or are missing.
-#[tactic(auto, unfolding(crate::specs::Side::side_of, lines::specs::FirstOf::first_of))]
+#[tactic(auto, unfolding(crate::specs::Side::side_of, crate::specs::Side::side_in, lines::specs::FirstOf::first_of))]
 pub fn side_of(tif: &[u8]) -> Side
     ensures { result ≡ side_of tif.now }
 {
     if tif.len() < SIDE_END {
         return Side::Neither;
     }
-    if is_same(field(tif, SIDE), &CREDIT) {
-        return Side::Credit;
-    }
-    if is_same(field(tif, SIDE), &DEBIT) {
-        return Side::Debit;
-    }
-    Side::Neither
+    side_in(field(tif, SIDE))
 }
 
 pub fn is_sided(side: Side) -> bool
     ensures { result ≡ is_sided side }
 {
-    match side {
-        Side::Credit => true,
-        Side::Debit => true,
-        Side::Neither => false,
-    }
+    side != Side::Neither
 }

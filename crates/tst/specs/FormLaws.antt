@@ -5,11 +5,12 @@ use Rattle.std.proofs.Common.{arith}
 use Rattle.lines.specs.Below.{all_below}
 use Rattle.lines.specs.BelowLaws.{all_at}
 use Rattle.lines.specs.BoolLaws.{and_left, and_right}
-use Rattle.lines.specs.Rows.{header_of, footer_of, framed_lines, Counted}
+use Rattle.lines.specs.Rows.{file_length, header_of, footer_of, framed_lines, Counted}
 use Rattle.lines.specs.RowsLaws.{Framed, framed_is}
 use Rattle.lines.specs.Spans.{span_in, spans_in}
-use Rattle.chains.specs.Index.{Ruled, all_different}
-use Rattle.tst.specs.Columns.{tst_layout, station_spans}
+use Rattle.passage.specs.Passage.{line_width}
+use Rattle.chains.specs.Index.{Ruled, Asked, all_different}
+use Rattle.tst.specs.Columns.{tst_layout, station_spans, exit_spans}
 use Rattle.tst.specs.Form.{is_lent, stations_of, header_formed, station_formed_at, stations_formed, footer_formed, rows_formed, formed_with, table_formed, table_sound, Tabled}
 
 -- the number of lines is the one that the length gives
@@ -53,3 +54,15 @@ formed_tabled tst e = go (framed_lines tst_layout tst) refl e
 pub sound_tabled : (tst : List ℕ) → table_sound tst ≡ true → is_lent tst ≡ true → Tabled tst
 unfolding table_sound
 sound_tabled tst e l = formed_tabled tst (rw l at e)
+
+-- so its lines can be indexed by their triples
+pub sound_long : (tst : List ℕ) → table_sound tst ≡ true → is_lent tst ≡ true → file_length tst_layout 0 ≤ length tst
+sound_long tst e l = omega (arith, (sound_tabled tst e l).framed.counted.long)
+
+pub sound_ruled : (tst : List ℕ) → table_sound tst ≡ true → is_lent tst ≡ true → Ruled tst_layout tst station_spans (stations_of tst)
+sound_ruled tst e l = counted_ruled tst _ _ (sound_tabled tst e l).framed.counted (omega arith)
+
+-- and a TIF's line has the three fields to ask for
+pub exit_asked : (line : List ℕ) → length line ≡ line_width → Asked station_spans exit_spans line
+unfolding spans_in span_in all_below
+exit_asked line e = record { inside = rw e; paired = refl }

@@ -4,7 +4,7 @@ ghost use Rattle.tst.specs.Columns.{tst_layout, header_width, row_width, footer_
 ghost use Rattle.tst.specs.Form.{is_lent, header_formed, station_formed, stations_formed, footer_formed, rows_formed, table_sound};
 
 use crate::columns::{ACTOR, LANE, RECORD_COUNT, STATION, STATION_SPANS, TST, VERSION};
-use chains::all_different;
+use chains::{Rows, all_different};
 use lines::{
     Class, Count, all_of, field, footer_of, framed_lines, header_of, is_same, line_of, read_digits,
 };
@@ -90,7 +90,12 @@ fn rows_formed(tst: &[u8], m: usize) -> bool
     if !footer_formed(footer_of(TST, tst, m)) {
         return false;
     }
-    all_different(TST, tst, &STATION_SPANS, m)
+    all_different(Rows {
+        layout: TST,
+        file: tst,
+        spans: &STATION_SPANS,
+        count: m,
+    })
 }
 
 // Whether no table is lent, or one of the right form (E8).

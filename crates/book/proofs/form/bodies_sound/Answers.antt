@@ -2,7 +2,6 @@ use native.Mathlib.Omega.{arith}
 use Prim.Native.Nat.{ℕ, ◌+◌, ◌*◌}
 use mathlib.Core.Path.{◌≡◌, sym, ap, ◌∙◌}
 use lib.ListN.{length}
-use borrow.Author.Rules.{rules}
 use lib.Dec.{eqb}
 use Rattle.lines.specs.BelowLaws.{all_zero, all_more, all_fails}
 use Rattle.lines.specs.BoolLaws.{and_false_left}
@@ -15,7 +14,7 @@ use Rattle.book.proofs.form.bodies_sound.Goals.{After-agreement_sound, Else-not-
 
 pub loop-i-init : goal.loop-i-init
 loop-i-init c =
-    (all_zero _, ap (λ (k : ℕ). 2 + k * 23) c.agreements_of-n.ensures ∙ sym (place_zero width c.args.book.now), search rules, omega arith)
+    (all_zero _, ap (λ (k : ℕ). 2 + k * 23) c.agreements_of-n.ensures ∙ sym (place_zero width c.args.book.now), omega arith)
 
 pub agreement_sound-requires : goal.agreement_sound-requires
 agreement_sound-requires c =
@@ -56,7 +55,6 @@ loop-i-preserved c =
     let next : c.loop-i.at + 14 + c.periods_at.result * 40 ≡ body_end width b c.loop-i.at = ap (λ (k : ℕ). c.loop-i.at + 14 + k * 40) c.periods_at.ensures in (
       all_more _ c.loop-i.i c.loop-i.invariant.0 (sym (told (goal.at.loop-i-preserved c).After-agreement_sound) ∙ c.if-not-agreement_sound.false),
       next ∙ ap (body_end width b) c.loop-i.invariant.1 ∙ sym (place_suc width b c.loop-i.i),
-      omega arith,
       omega (arith, (body (goal.at.loop-i-preserved c).Else-not-agreement_sound).inside, next),
     )
 

@@ -8,7 +8,7 @@ use Rattle.chains.specs.HashLaws.{spans_zero, spans_suc}
 use Rattle.chains.proofs.hash.hash_line.Goals as goal
 
 pub loop-m-init : goal.loop-m-init
-loop-m-init c = (sym (spans_zero _ _), omega arith, omega arith)
+loop-m-init c = (sym (spans_zero _ _), omega arith)
 
 pub field-requires : goal.field-requires
 field-requires c =
@@ -24,7 +24,6 @@ loop-m-preserved c =
           ∙ ap (λ (x : ℕ). mix_text x (span_of s line c.loop-m.m)) c.loop-m.invariant.0
           ∙ sym (spans_suc s line c.loop-m.m),
       c.mix_text-h.ensures.small,
-      omega arith,
     )
 
 pub returns : goal.returns

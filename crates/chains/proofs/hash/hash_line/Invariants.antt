@@ -1,11 +1,7 @@
-use Prim.Native.Nat.{◌-◌, ◌≤◌, ◌<◌}
 use mathlib.Core.Path.{◌≡◌}
-use Rattle.lines.specs.Spans.{span_count}
+use Prim.Native.Nat.{◌<◌}
 use Rattle.chains.specs.Hash.{mix_spans}
 use Rattle.chains.proofs.hash.hash_line.Given as goal
 
 abbrev pub invariant-loop-m : goal.invariant-loop-m
-invariant-loop-m l = (l.h ≡ mix_spans l.spans l.line l.m) × (l.h < 4294967296) × (l.m ≤ span_count l.spans)
-
-abbrev pub decreases-loop-m : goal.decreases-loop-m
-decreases-loop-m l = span_count l.spans - l.m
+invariant-loop-m l = (l.h ≡ mix_spans l.spans l.line l.m) × (l.h < 4294967296)

@@ -5,47 +5,53 @@ use mathlib.Core.List.{List}
 use Rattle.lines.specs.Spans.{agree_across}
 use Rattle.chains.specs.Index.{agrees_with}
 use Rattle.chains.specs.IndexLaws.{line_there, line_spanned}
-use Rattle.chains.specs.ChainLaws.{chain_start, chain_falls, chain_down, chain_hit, chain_end}
+use Rattle.chains.specs.ChainLaws.{chain_falls}
+use Rattle.chains.specs.LastChainLaws.{last_start, last_down, last_seen, last_unseen}
 use Rattle.chains.proofs.search.walk.Goals as goal
 use Rattle.chains.proofs.search.walk.Goals.{After-agree_across}
 
 -- what the test of a turn says
 tested : (c : After-agree_across) →
     let a = c.args in
-    agrees_with a.layout a.file.now a.spans.now a.ts.now a.other.now (c.loop-link.link - 1) ≡ c.agree_across.result
+    agrees_with a.rows.layout a.rows.file.now a.rows.spans.now a.sought.spans.now a.sought.line.now c.in-Some.j ≡ c.agree_across.result
 unfolding agrees_with
 tested c =
     let a = c.args in
-    sym (c.agree_across.ensures ∙ ap (λ (line : List ℕ). agree_across a.spans.now line a.ts.now a.other.now) c.line_of.ensures)
+    sym (c.agree_across.ensures ∙ ap (λ (line : List ℕ). agree_across a.rows.spans.now line a.sought.spans.now a.sought.line.now) c.line_of-line.ensures)
 
-pub loop-link-init : goal.loop-link-init
-loop-link-init c = chain_start _ _ _ _ _ _ _ c.requires
+pub loop-j-init : goal.loop-j-init
+loop-j-init c = last_start _ _ _ _ _ _ _ c.requires
 
-pub line_of-requires : goal.line_of-requires
-line_of-requires c =
-    line_there _ _ _ c.args.start (c.loop-link.link - 1) c.requires.ruled (omega arith)
+pub line_of-line-requires : goal.line_of-line-requires
+line_of-line-requires c =
+    line_there _ _ _ c.args.start c.in-Some.j c.requires.ruled (omega arith)
 
 pub agree_across-requires : goal.agree_across-requires
 agree_across-requires c =
     let w = c.requires in
     record {
-      first = rw c.line_of.ensures (line_spanned _ _ _ c.args.start (c.loop-link.link - 1) w.ruled (omega arith));
+      first = rw c.line_of-line.ensures (line_spanned _ _ _ c.args.start c.in-Some.j w.ruled (omega arith));
       second = w.asked.inside;
       paired = w.asked.paired;
     }
 
 pub returns-then-agree_across : goal.returns-then-agree_across
 returns-then-agree_across c =
-    sym (chain_hit _ _ _ _ _ _ _ c.requires c.loop-link.link c.loop-link.invariant (omega arith) (tested (goal.at.returns-then-agree_across c).After-agree_across ∙ c.if-agree_across.true))
+    let e : c.in-Some.j ≡ c.loop-j.link - 1 = omega arith in
+    let t = tested (goal.at.returns-then-agree_across c).After-agree_across ∙ c.if-agree_across.true in
+    rw e (sym (last_seen _ _ _ _ _ _ _ c.requires c.loop-j.link c.loop-j.invariant (omega arith) (rw e at t)))
 
-pub loop-link-smaller : goal.loop-link-smaller
-loop-link-smaller c =
-    rw c.link_of-link.ensures (chain_falls _ _ _ _ _ _ _ c.requires c.loop-link.link c.loop-link.invariant (omega arith))
+pub loop-j-smaller : goal.loop-j-smaller
+loop-j-smaller c =
+    let e : c.in-Some.j ≡ c.loop-j.link - 1 = omega arith in
+    rw (c.from-link.ensures, e) (chain_falls _ _ _ _ _ _ _ c.requires c.loop-j.link c.loop-j.invariant.on (omega arith))
 
-pub loop-link-preserved : goal.loop-link-preserved
-loop-link-preserved c =
-    rw c.link_of-link.ensures (chain_down _ _ _ _ _ _ _ c.requires c.loop-link.link c.loop-link.invariant (omega arith) (tested (goal.at.loop-link-preserved c).After-agree_across ∙ c.if-agree_across.false))
+pub loop-j-preserved : goal.loop-j-preserved
+loop-j-preserved c =
+    let e : c.in-Some.j ≡ c.loop-j.link - 1 = omega arith in
+    let t = tested (goal.at.loop-j-preserved c).After-agree_across ∙ c.if-agree_across.false in
+    rw (c.from-link.ensures, e) (last_down _ _ _ _ _ _ _ c.requires c.loop-j.link c.loop-j.invariant (omega arith) (rw e at t))
 
 pub returns : goal.returns
 returns c =
-    sym (chain_end _ _ _ _ _ _ _ c.requires c.loop-link.link c.loop-link.invariant (omega arith))
+    sym (last_unseen _ _ _ _ _ _ _ c.requires c.loop-j.link c.loop-j.invariant (omega (arith, c.in_default.ensures)))

@@ -1,8 +1,8 @@
-use Rattle.chains.specs.Chain.{OnChain}
+use Rattle.chains.specs.LastChain.{OnLastChain}
 use Rattle.chains.proofs.search.walk.Given as goal
 
-abbrev pub invariant-loop-link : goal.invariant-loop-link
-invariant-loop-link l = OnChain l.layout l.file l.spans l.start l.ts l.other l.link
+abbrev pub invariant-loop-j : goal.invariant-loop-j
+invariant-loop-j l = OnLastChain l.rows.layout l.rows.file.now l.rows.spans.now l.start l.sought.spans.now l.sought.line.now l.link
 
-abbrev pub decreases-loop-link : goal.decreases-loop-link
-decreases-loop-link l = l.link
+abbrev pub decreases-loop-j : goal.decreases-loop-j
+decreases-loop-j l = l.link

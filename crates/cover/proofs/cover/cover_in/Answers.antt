@@ -1,6 +1,6 @@
 use Rattle.std.proofs.Common.{Some}
 use native.Mathlib.Omega.{arith}
-use Prim.Native.Nat.{ℕ, ◌+◌}
+use Prim.Native.Nat.{ℕ}
 use mathlib.Core.Path.{◌≡◌, sym, ap, ◌∙◌}
 use lib.Dec.{ltb}
 use Rattle.book.specs.Layout.{width, agreements, periods_at, body_place}
@@ -9,7 +9,6 @@ use Rattle.book.specs.FormLaws.{whole_is}
 use Rattle.cover.specs.Cover.{asked, has_cover, cover_in, covering_period, place_at}
 use Rattle.cover.specs.CoverLaws.{body_at}
 use borrow.Author.Tests.{lt-ltb, le-ltb}
-use Rattle.cover.specs.declared.cover.Place.{Place}
 use Rattle.cover.proofs.cover.cover_in.Goals as goal
 use Rattle.cover.proofs.cover.cover_in.Goals.{After-body_place-at, After-first_covering-j, After-periods_at}
 

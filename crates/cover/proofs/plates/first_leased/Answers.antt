@@ -13,7 +13,7 @@ use Rattle.cover.specs.Plates.{numbers_of, body_for, numbered, period_for, slot_
 use Rattle.cover.specs.PlatesLaws.{number_at, number_covers, stands_in, ends_low}
 use Rattle.cover.specs.PlateChainLaws.{to_start, to_number, to_hit, to_more, to_none}
 use Rattle.cover.proofs.plates.first_leased.Goals as goal
-use Rattle.cover.proofs.plates.first_leased.Goals.{After-body_place-at, After-link_of-x-in-loop-x}
+use Rattle.cover.proofs.plates.first_leased.Goals.{After-body_place-at, After-from-x-in-loop-x}
 
 pub agreements_of-n-requires : goal.agreements_of-n-requires
 agreements_of-n-requires c = (whole_is width _ c.requires.0.sound).headed.enough
@@ -26,7 +26,7 @@ bounds-links-hash_two c = omega (arith, c.hash_two.ensures.1, c.requires.1.long)
 
 pub loop-x-init : goal.loop-x-init
 loop-x-init c =
-    to_start _ _ _ _ _ c.requires.1 _ _ c.hash_two.ensures.0 c.link_of-x.ensures
+    to_start _ _ _ _ _ c.requires.1 _ _ c.hash_two.ensures.0 c.from-x.ensures
 
 -- the numbers that the loop goes through
 bound : (book : List ℕ) (k x : ℕ) → k ≡ agreements book → x < 64 * k → x < numbers_of book
@@ -77,24 +77,24 @@ pub bounds-links-slot_at : goal.bounds-links-slot_at
 bounds-links-slot_at c = omega (arith, c.slot_at.ensures.1, c.requires.1.long)
 
 -- one turn: the next number, which is greater
-on : (c : After-link_of-x-in-loop-x) →
+on : (c : After-from-x-in-loop-x) →
     let a = c.args in
-    WayTo a.book.now a.links.now (asked false a.moment.now a.plate.now a.nation.now) (hash_two a.plate.now a.nation.now) c.link_of-x-in-loop-x.result × (c.loop-x.x < c.link_of-x-in-loop-x.result)
+    WayTo a.book.now a.links.now (asked false a.moment.now a.plate.now a.nation.now) (hash_two a.plate.now a.nation.now) c.from-x-in-loop-x.result × (c.loop-x.x < c.from-x-in-loop-x.result)
 on c =
     let a = c.args in
     let n = number _ _ _ _ _ _ c.loop-x.x c.requires.1 c.loop-x.invariant c.agreements_of-n.ensures (omega arith) in
     to_more _ _ _ _ _ c.requires.1 c.loop-x.x c.loop-x.invariant (bound _ _ c.loop-x.x c.agreements_of-n.ensures (omega arith))
     (told _ _ _ _ c.loop-x.x _ _ _ n c.body_place-at.ensures c.period_of.ensures c.plate_covers.ensures ∙ c.if-plate_covers.false) _
-    (c.link_of-x-in-loop-x.ensures
+    (c.from-x-in-loop-x.ensures
     ∙ ap (λ (s : ℕ). get_or a.links.now (4096 + s) 0) c.slot_at.ensures.0
     ∙ ap (λ (at : ℕ). get_or a.links.now (4096 + slot_at at (c.loop-x.x % 64)) 0) c.body_place-at.ensures)
 
 pub loop-x-smaller : goal.loop-x-smaller
 loop-x-smaller c =
-    omega (arith, bound _ _ c.loop-x.x c.agreements_of-n.ensures (omega arith), (on (goal.at.loop-x-smaller c).After-link_of-x-in-loop-x).1)
+    omega (arith, bound _ _ c.loop-x.x c.agreements_of-n.ensures (omega arith), (on (goal.at.loop-x-smaller c).After-from-x-in-loop-x).1)
 
 pub loop-x-preserved : goal.loop-x-preserved
-loop-x-preserved c = (on (goal.at.loop-x-preserved c).After-link_of-x-in-loop-x).0
+loop-x-preserved c = (on (goal.at.loop-x-preserved c).After-from-x-in-loop-x).0
 
 pub returns : goal.returns
 returns c =

@@ -1,6 +1,6 @@
 use Rattle.std.proofs.Common.{Some}
 use native.Mathlib.Omega.{arith}
-use Prim.Native.Nat.{ℕ, ◌+◌}
+use Prim.Native.Nat.{ℕ}
 use mathlib.Core.Path.{◌≡◌, sym, ap, ◌∙◌}
 use mathlib.Core.Bool.{true}
 use mathlib.Core.List.{List}
@@ -11,7 +11,6 @@ use Rattle.book.specs.Form.{Body}
 use Rattle.book.specs.FormLaws.{whole_is}
 use Rattle.cover.specs.Cover.{asked, has_cover, cover_in, covering_period, place_at}
 use Rattle.cover.specs.CoverLaws.{body_at}
-use Rattle.cover.specs.declared.cover.Place.{Place}
 use Rattle.cover.proofs.rising.cover_in_time.Goals as goal
 use Rattle.cover.proofs.rising.cover_in_time.Goals.{After-body_place-at, After-period_in_time-j, After-periods_at}
 

@@ -23,7 +23,7 @@ bounds-links-at c =
 pub loop-j-init : goal.loop-j-init
 unfolding link_at
 loop-j-init c =
-    (rw c.hash_line-at.ensures.value (way_start _ _ _ _ c.requires.1.chained _ _ (free_has _ _ _) (hash_small _ _)), c.link_of-j.ensures)
+    (rw c.hash_line-at.ensures.value (way_start _ _ _ _ c.requires.1.chained _ _ (free_has _ _ _) (hash_small _ _)), c.from-j.ensures)
 
 pub returns-then-free_for : goal.returns-then-free_for
 unfolding place_taken
@@ -49,7 +49,7 @@ unfolding link_at
 loop-j-preserved c = (
   way_more _ _ _ _ c.requires.1.chained _ _ (free_has _ _ _) c.loop-j.at c.loop-j.j c.loop-j.invariant.0 c.loop-j.invariant.1 (omega arith)
       (sym c.free_for.ensures ∙ c.if-free_for.false),
-  c.link_of-j-in-loop-j.ensures,
+  c.from-j-in-loop-j.ensures,
 )
 
 pub returns : goal.returns

@@ -16,7 +16,7 @@ bounds-links-at c =
 pub returns-then-j-marks : goal.returns-then-j-marks
 unfolding link_at
 returns-then-j-marks c =
-    let e = c.link_of-j.ensures ∙ c.link_to-at.ensures.leads in
+    let e = c.from-j.ensures ∙ c.link_to-at.ensures.leads in
     (record { answer = sym (taken_none _ _ _ (omega arith)); marked = search rules; within = omega arith }, c.requires.1)
 
 pub bounds-links-j : goal.bounds-links-j
@@ -31,11 +31,11 @@ pub returns : goal.returns
 unfolding link_at
 returns c =
     let g = c.link_to-at.ensures in
-    let e = c.link_of-j.ensures ∙ g.leads in (
+    let e = c.from-j.ensures ∙ g.leads in (
       record {
         answer = ap (λ (j : ℕ). Some (j + 1)) e ∙ sym (taken_some _ _ _ (omega arith));
         marked = rw (add-one, sub-one);
         within = omega arith;
       },
-      opened_cut _ _ _ _ _ _ _ c.requires.1 g c.link_of-j.ensures (omega arith) refl,
+      opened_cut _ _ _ _ _ _ _ c.requires.1 g c.from-j.ensures (omega arith) refl,
     )

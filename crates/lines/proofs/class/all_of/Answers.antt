@@ -1,20 +1,18 @@
-use native.Mathlib.Omega.{arith}
-use mathlib.Core.Path.{◌≡◌, sym, ◌∙◌}
-use lib.ListN.{length}
-use borrow.Author.Rules.{rules}
+use Rattle.std.specs.Prelude.{◌≡◌, length}
+use Rattle.std.proofs.Common.{sym, ◌∙◌, arith}
 use Rattle.lines.specs.BelowLaws.{all_zero, all_suc}
 use Rattle.lines.specs.Class.{byte_is}
 use Rattle.lines.specs.ClassLaws.{all_of_by}
 use Rattle.lines.proofs.class.all_of.Goals as goal
 
-pub loop-i-init : goal.loop-i-init
-loop-i-init c = (sym (all_zero _), search rules)
+pub loop-b-init : goal.loop-b-init
+loop-b-init c = sym (all_zero _)
 
-pub loop-i-preserved : goal.loop-i-preserved
+pub loop-b-preserved : goal.loop-b-preserved
 unfolding byte_is
-loop-i-preserved c = (c.both-all.ensures ∙ rw (c.is_in.ensures, c.loop-i.invariant.0) (sym (all_suc _ c.loop-i.i)), omega arith)
+loop-b-preserved c = rw (c.loop-b.invariant, c.contain-all.ensures) (sym (all_suc _ c.loop-b.b-index))
 
 pub returns : goal.returns
 returns c =
-    let e : c.loop-i.i ≡ length c.args.s.now = omega arith in
-    rw e at c.loop-i.invariant.0 ∙ sym (all_of_by _ _ c.ranges_of-ranges.ensures _)
+    let e : c.loop-b.b-index ≡ length c.args.s.now = omega arith in
+    rw e at c.loop-b.invariant ∙ sym (all_of_by _ _ c.ranges_of-ranges.ensures _)

@@ -1,13 +1,8 @@
-use Prim.Native.Nat.{◌-◌, ◌≤◌}
-use mathlib.Core.Path.{◌≡◌}
-use lib.ListN.{length}
+use Rattle.std.specs.Prelude.{◌≡◌}
 use Rattle.lines.specs.Below.{all_below}
 use Rattle.lines.specs.Class.{byte_is}
 use Rattle.lines.specs.Ranges.{in_ranges}
 use Rattle.lines.proofs.class.all_of.Given as goal
 
-abbrev pub invariant-loop-i : goal.invariant-loop-i
-invariant-loop-i l = (l.all ≡ all_below l.i (byte_is (in_ranges l.ranges) l.s)) × (l.i ≤ length l.s)
-
-abbrev pub decreases-loop-i : goal.decreases-loop-i
-decreases-loop-i l = length l.s - l.i
+abbrev pub invariant-loop-b : goal.invariant-loop-b
+invariant-loop-b l = l.all ≡ all_below l.b-index (byte_is (in_ranges l.ranges) l.s)

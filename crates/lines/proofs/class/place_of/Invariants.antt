@@ -1,14 +1,8 @@
-use Prim.Native.Nat.{◌-◌, ◌≤◌}
-use mathlib.Core.Path.{◌≡◌}
-use mathlib.Core.Bool.{false}
-use lib.ListN.{length}
+use Rattle.std.specs.Prelude.{◌≡◌, false}
 use Rattle.lines.specs.Below.{some_below}
 use Rattle.lines.specs.Class.{byte_is}
 use Rattle.lines.specs.Ranges.{in_ranges}
 use Rattle.lines.proofs.class.place_of.Given as goal
 
 abbrev pub invariant-loop-i : goal.invariant-loop-i
-invariant-loop-i l = (some_below l.i (byte_is (in_ranges l.ranges) l.s) ≡ false) × (l.i ≤ length l.s)
-
-abbrev pub decreases-loop-i : goal.decreases-loop-i
-decreases-loop-i l = length l.s - l.i
+invariant-loop-i l = some_below l.i (byte_is (in_ranges l.ranges) l.s) ≡ false

@@ -1,38 +1,30 @@
-use native.Mathlib.Omega.{arith}
-use Prim.Native.Nat.{ℕ, ◌+◌, ◌-◌}
-use mathlib.Core.Path.{sym, ap, ◌∙◌}
-use mathlib.Core.List.{List}
-use Prim.Native.Nat.{◌/◌, ◌%◌}
-use lib.ListN.{length-set}
-use Rattle.lines.specs.Splice.{splice}
-use Rattle.lines.specs.SpliceLaws.{splice_back, splice_nil}
+use Rattle.std.specs.Prelude.{◌-◌, ◌/◌, ◌%◌, ◌+◌, List, ℕ}
+use Rattle.std.proofs.Common.{sym, ap, ◌∙◌, arith, length-set}
 use Rattle.lines.specs.Number.{digits_of}
 use Rattle.lines.specs.NumberLaws.{digits_pred, digits_none, digits_length}
+use Rattle.lines.specs.Splice.{splice}
+use Rattle.lines.specs.SpliceLaws.{splice_back, splice_nil}
 use Rattle.lines.proofs.put.put_digits.Goals as goal
 
-pub loop-left-preserved : goal.loop-left-preserved
-loop-left-preserved c =
-    let l = c in
-    let a = l.args in
-    let o = l.loop-left.out in
-    let j = l.loop-left.left in
-    let v = l.loop-left.rest in
+pub loop-i-preserved : goal.loop-i-preserved
+loop-i-preserved c =
+    let o = c.loop-i.out in
+    let at = c.args.at in
+    let j = c.loop-i.i in
+    let v = c.loop-i.rest in
     let front = digits_of (j - 1) (v / 10) in (
-      splice_back o a.at front (48 + v % 10) (a.at + (j - 1)) (omega (arith, digits_length (j - 1) (v / 10))) (omega (arith, digits_length (j - 1) (v / 10)))
-          ∙ ap (λ (t : List ℕ). splice o a.at t) (sym (digits_pred j v c.loop-left-test.true))
-          ∙ l.loop-left.invariant.0,
-      omega arith,
-      simp length-set l.loop-left.invariant.2,
+      splice_back o at front (48 + v % 10) (at + (j - 1)) (omega (arith, digits_length (j - 1) (v / 10))) (omega (arith, digits_length (j - 1) (v / 10)))
+          ∙ ap (λ (t : List ℕ). splice o at t) (sym (digits_pred j v (omega arith)))
+          ∙ c.loop-i.invariant.0,
+      simp length-set c.loop-i.invariant.1,
     )
 
 pub returns : goal.returns
 returns c =
-    let l = c in
-    let a = l.args in
     record {
-      place = omega (arith, digits_length a.width a.value);
+      place = omega (arith, digits_length c.args.width c.args.value);
       spliced =
-          sym (splice_nil l.loop-left.out a.at)
-          ∙ ap (λ (t : List ℕ). splice l.loop-left.out a.at t) (sym (digits_none l.loop-left.left l.loop-left.rest (omega arith)))
-          ∙ l.loop-left.invariant.0;
+          sym (splice_nil c.loop-i.out c.args.at)
+          ∙ ap (λ (t : List ℕ). splice c.loop-i.out c.args.at t) (sym (digits_none c.loop-i.i c.loop-i.rest (omega arith)))
+          ∙ c.loop-i.invariant.0;
     }

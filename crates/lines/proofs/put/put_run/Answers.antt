@@ -1,37 +1,15 @@
-use native.Mathlib.Omega.{arith}
-use Prim.Native.Nat.{ℕ, ◌+◌}
-use mathlib.Core.Path.{◌≡◌, refl, sym, ap, ◌∙◌}
-use mathlib.Core.List.{List}
-use lib.ListN.{length, take, set}
-use borrow.Author.Rules.{rules}
-use lib.ListN.{length-set, replicate, length-replicate, get_or-replicate}
-use lib.Seq.{take-length}
-use Rattle.lines.specs.Splice.{splice}
-use Rattle.lines.specs.SpliceLaws.{splice_take_zero, splice_take_more}
+use Rattle.std.specs.Prelude.{◌≡◌, ◌+◌, ◌-◌, ℕ, replicate, length, take, drop}
+use Rattle.std.proofs.Common.{ap, ◌∙◌, arith, length-drop, length-take-le}
+use Rattle.std.proofs.lemmas.List.{length-replicate}
+use Rattle.lines.specs.SpliceLaws.{put_over}
 use Rattle.lines.proofs.put.put_run.Goals as goal
-
-pub loop-i-init : goal.loop-i-init
-loop-i-init c = (splice_take_zero _ _ (replicate c.args.times c.args.b), search rules, refl)
-
-pub loop-i-preserved : goal.loop-i-preserved
-loop-i-preserved c =
-    let l = c in
-    let a = l.args in
-    let run = replicate a.times a.b in (
-      rw l.loop-i.invariant.0
-          (ap (λ (v : ℕ). set (splice a.out.now a.at (take l.loop-i.i run)) (a.at + l.loop-i.i) v) (sym (get_or-replicate a.times l.loop-i.i a.b 0 (omega arith)))
-          ∙ splice_take_more a.out.now a.at run l.loop-i.i (omega arith) (omega (arith, length-replicate a.times a.b))),
-      omega arith,
-      simp length-set l.loop-i.invariant.2,
-    )
 
 pub returns : goal.returns
 returns c =
-    let l = c in
-    let a = l.args in
-    let run = replicate a.times a.b in
-    let e : l.loop-i.i ≡ length run = omega (arith, length-replicate a.times a.b) in
-    record {
-      place = omega (arith, length-replicate a.times a.b);
-      spliced = l.loop-i.invariant.0 ∙ ap (λ (t : List ℕ). splice a.out.now a.at t) (ap (λ (k : ℕ). take k run) e ∙ take-length run);
-    }
+    let rest = drop c.args.at c.args.out.now in
+    let n : ℕ = c.args.at + c.args.times - c.args.at in
+    let part : length (take n rest) ≡ c.args.times = length-take-le n rest (omega (arith, length-drop c.args.at c.args.out.now)) ∙ omega arith in
+    let run = replicate c.args.times c.args.b in
+    let long : length run ≡ c.args.times = length-replicate c.args.times c.args.b in
+    let filled : c.fill.new.self ≡ run = c.fill.ensures.after (λ y e. e) ∙ ap (λ (k : ℕ). replicate k c.args.b) part in
+    put_over run _ _ _ _ _ filled (omega arith) (omega arith)
