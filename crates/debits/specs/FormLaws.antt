@@ -1,12 +1,13 @@
 -- What is known of open debits and marks of the right form. Assumes nothing.
-use Rattle.std.specs.Prelude.{◌≡◌, Bool, true, ◌&&◌, List, ℕ, ◌+◌, ◌*◌, ◌≤◌, ◌<◌, length, get_or, eqb}
-use Rattle.std.proofs.Math.Path.{ap}
+use Rattle.std.specs.Prelude.{◌≡◌, Bool, true, false, Some, None, MatchBool, ◌&&◌, List, ℕ, ◌+◌, ◌*◌, ◌≤◌, ◌<◌, length, get_or, eqb}
+use Rattle.std.specs.List.{AllWithin, HoldsAt}
+use Rattle.std.proofs.Math.Path.{refl, ap, sym}
 use Rattle.std.proofs.Common.{arith}
-use borrow.Author.Tests.{eqb-true, leb-true}
-use Rattle.lines.specs.BelowLaws.{all_at}
+use borrow.Author.Tests.{eqb-true, leb-true, le-leb, lt-leb}
+use Rattle.lines.specs.BelowLaws.{all_at, all_each, all_fails}
 use Rattle.lines.specs.BoolLaws.{and_left, and_right}
-use Rattle.lines.specs.Rows.{Counted, count_fits, line_place}
-use Rattle.lines.specs.RowsLaws.{line_ends, line_length, count_yes, count_is}
+use Rattle.lines.specs.Rows.{Counted, count_fits, line_count, line_place}
+use Rattle.lines.specs.RowsLaws.{line_ends, line_length, count_yes, count_is, count_not}
 use Rattle.passage.specs.Passage.{line_width}
 use Rattle.debits.specs.Form.{debit_layout, debit_line, debit_count, debit_sound_at, lines_sound, mark_sound_at, marks_sound, debits_sound, Sound}
 
@@ -51,3 +52,28 @@ module _ (debits marks : List ℕ) (e : debits_sound debits marks ≡ true) wher
         each = λ j h. all_at (debit_sound_at debits) (debit_count debits) lines j (rw as_many h);
         binary = λ j h. leb-true (get_or marks j 0) 1 (all_at (mark_sound_at marks) (length marks) bytes j h);
       }
+
+and_first : (a b c : Bool) → (a && (b && c)) ≡ (b && (a && c))
+and_first true b c = refl
+and_first false true c = refl
+and_first false false c = refl
+
+-- what is found of each mark, and of the number of lines that the length gives
+pub marks_told : (marks : List ℕ) (b : Bool) → MatchBool b (AllWithin (λ x. x ≤ 1) marks 0 (length marks)) ((k : ℕ) × (k < length marks) × HoldsAt (λ x. 1 < x) marks k)
+    → b ≡ marks_sound marks
+unfolding marks_sound mark_sound_at
+marks_told marks true h = sym (all_each _ (length marks) (λ i l. le-leb (get_or marks i 0) 1 (h i 0 (omega arith) l)))
+marks_told marks false h = sym (all_fails _ (length marks) h.0 h.1 (lt-leb (get_or marks h.0 0) 1 (h.2 0)))
+
+module _ (debits marks : List ℕ) where
+  pub debits_unruled : line_count debit_layout (length debits) ≡ None → debits_sound debits marks ≡ false
+  unfolding debits_sound
+  debits_unruled e = rw (count_not debit_layout (length debits) e)
+
+  module _ (n : ℕ) (e : line_count debit_layout (length debits) ≡ Some n) where
+    pub debits_lined : n * line_width ≤ length debits
+    debits_lined = omega (arith, (count_is _ _ _ e).2.long)
+
+    pub debits_told : debits_sound debits marks ≡ (eqb n (length marks) && (lines_sound debits n && marks_sound marks))
+    unfolding debits_sound
+    debits_told = let is = count_is _ _ _ e in rw (is.0, ← is.1) (and_first (lines_sound debits n) (eqb n (length marks)) (marks_sound marks))

@@ -17,31 +17,19 @@ pub const DEBITS: Layout = Layout {
 fn is_debit_type(b: u8) -> bool
     ensures { result ≡ is_debit_type b }
 {
-    if b == b'C' {
-        return true;
-    }
-    b == b'D'
+    b == b'C' || b == b'D'
 }
 
 // Whether a line can be an open debit. A line feed inside it is no fault.
-#[tactic(auto, using(lines::specs::NumberLaws::read_bad), unfolding(crate::specs::Form::debit_sound))]
+#[tactic(auto, unfolding(crate::specs::Form::debit_sound, lines::specs::Number::read_digits))]
 fn debit_sound(line: &[u8]) -> bool
     requires { length line.now ≡ line_width }
     ensures { result ≡ debit_sound line.now }
 {
-    if line[0] != b'1' {
-        return false;
-    }
-    if line[WIDTH - 1] != 10 {
-        return false;
-    }
-    if !is_debit_type(line[1]) {
-        return false;
-    }
-    let Some(_) = read_digits(field(line, GROSS_AMOUNT)) else {
-        return false;
-    };
-    true
+    line[0] == b'1'
+        && line[WIDTH - 1] == b'\n'
+        && is_debit_type(line[1])
+        && read_digits(field(line, GROSS_AMOUNT)).is_some()
 }
 
 // Whether each of n lines can be an open debit.
@@ -50,43 +38,29 @@ fn lines_sound(debits: &[u8], n: usize) -> bool
     requires { n * line_width ≤ length debits.now }
     ensures { result ≡ lines_sound debits.now n }
 {
-    let mut j = 0;
-    while j < n {
+    for j in 0..n {
         if !debit_sound(line_of(DEBITS, debits, j)) {
             return false;
         }
-        j += 1;
     }
     true
 }
 
 // Whether each mark is 0 or 1.
-#[tactic(auto, using(lines::specs::BelowLaws::all_zero, lines::specs::BelowLaws::all_more), unfolding(crate::specs::Form::marks_sound, crate::specs::Form::mark_sound_at))]
+#[tactic(auto, using(crate::specs::FormLaws::marks_told))]
 fn marks_sound(marks: &[u8]) -> bool
     ensures { result ≡ marks_sound marks.now }
 {
-    let mut j = 0;
-    while j < marks.len() {
-        if marks[j] > 1 {
-            return false;
-        }
-        j += 1;
-    }
-    true
+    marks.iter().all(|mark| *mark <= 1)
 }
 
 // Whether open debits and their marks are of the right form (E6).
+#[tactic(auto, using(crate::specs::FormLaws::debits_unruled, crate::specs::FormLaws::debits_lined, crate::specs::FormLaws::debits_told))]
 pub fn debits_sound(debits: &[u8], marks: &[u8]) -> bool
     ensures { result ≡ debits_sound debits.now marks.now }
 {
     let Some(n) = line_count(DEBITS, debits.len()) else {
         return false;
     };
-    if !lines_sound(debits, n) {
-        return false;
-    }
-    if n != marks.len() {
-        return false;
-    }
-    marks_sound(marks)
+    n == marks.len() && lines_sound(debits, n) && marks_sound(marks)
 }

@@ -26,10 +26,9 @@ fn enter_open(debits: &[u8], marks: &[u8], k: usize, links: &mut [u16])
     requires open_from { OpenFrom debits.now marks.now (k + 1) links.old }
     ensures { OpenFrom debits.now marks.now k links.new }
 {
-    if marks[k] != 0 {
-        return;
+    if marks[k] == 0 {
+        enter_ahead(links, debit_hash(debits, k), k, k);
     }
-    enter_ahead(links, debit_hash(debits, k), k, k);
 }
 
 // Chains the open debits by the hash of what a credit must share with them; what the slice held before does not matter.
@@ -39,9 +38,7 @@ pub fn index_open(debits: &[u8], marks: &[u8], links: &mut [u16])
     ensures { Opened debits.now marks.now links.new }
 {
     clear_ahead(links, marks.len());
-    let mut k = marks.len();
-    while k > 0 {
-        k -= 1;
+    for k in (0..marks.len()).rev() {
         enter_open(debits, marks, k, links);
     }
 }
@@ -73,9 +70,7 @@ pub fn take_open(debits: &[u8], marks: &mut [u8], credit: &[u8], links: &mut [u1
     if j >= marks.len() {
         return None;
     }
-    let after = links[HASHES + j];
-    links[at] = after;
+    links[at] = links[HASHES + j];
     marks[j] = 1;
-    let number = j + 1;
-    Some(number)
+    Some(j + 1)
 }

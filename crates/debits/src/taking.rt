@@ -1,4 +1,4 @@
-ghost use Rattle.std.specs.Prelude.{◌≡◌, ◌<◌, length};
+ghost use Rattle.std.specs.Prelude.{◌≡◌, ◌<◌, length, MatchOption};
 ghost use Rattle.debits.specs.Taking.{Lent, free_for, place_taken, Took};
 
 use crate::form::DEBITS;
@@ -11,26 +11,21 @@ pub fn free_for(debits: &[u8], marks: &[u8], credit: &[u8], j: usize) -> bool
     requires { Lent debits.now marks.now credit.now × (j < length marks.now) }
     ensures { result ≡ free_for debits.now marks.now credit.now j }
 {
-    if marks[j] != 0 {
-        return false;
-    }
-    agree_on(&CREDIT_SPANS, line_of(DEBITS, debits, j), credit)
+    marks[j] == 0 && agree_on(&CREDIT_SPANS, line_of(DEBITS, debits, j), credit)
 }
 
-// The place of the first unmarked debit that agrees with the credit, and the number of marks where there is none.
+// The place of the first unmarked debit that agrees with the credit, counted from 0.
 #[tactic(auto, using(lines::specs::BelowLaws::some_zero, lines::specs::BelowLaws::some_more, lines::specs::BelowLaws::first_hit, lines::specs::BelowLaws::first_none), unfolding(crate::specs::Taking::place_taken))]
-fn first_free(debits: &[u8], marks: &[u8], credit: &[u8]) -> usize
+fn first_free(debits: &[u8], marks: &[u8], credit: &[u8]) -> Option<usize>
     requires { Lent debits.now marks.now credit.now }
-    ensures { result ≡ place_taken debits.now marks.now credit.now }
+    ensures { MatchOption result (place_taken debits.now marks.now credit.now ≡ length marks.now) (λ j. (place_taken debits.now marks.now credit.now ≡ j) × (j < length marks.now)) }
 {
-    let mut j = 0;
-    while j < marks.len() {
+    for j in 0..marks.len() {
         if free_for(debits, marks, credit, j) {
-            return j;
+            return Some(j);
         }
-        j += 1;
     }
-    j
+    None
 }
 
 // The credit takes the first unmarked debit that agrees with it, and that debit's mark becomes 1. The answer is that debit's number, counted from 1.
@@ -39,10 +34,7 @@ pub fn take_debit(debits: &[u8], marks: &mut [u8], credit: &[u8]) -> Option<usiz
     requires { Lent debits.now marks.old credit.now }
     ensures { Took debits.now marks.old credit.now result marks.new }
 {
-    let j = first_free(debits, marks, credit);
-    if j >= marks.len() {
-        return None;
-    }
+    let j = first_free(debits, marks, credit)?;
     marks[j] = 1;
     Some(j + 1)
 }

@@ -4,7 +4,7 @@ ghost use Rattle.tif.specs.Acceptance.{acceptance_of};
 use crate::body::body_amount;
 use crate::columns::TIF;
 use crate::footer::footer_amount;
-use crate::header::{counts_agree, read_header};
+use crate::header::{Header, counts_agree};
 use crate::received::is_received;
 use lines::{Count, Gross, footer_of, framed_lines, header_of};
 
@@ -32,10 +32,11 @@ pub fn acceptance_of(name: &[u8], names: &[u8], tif: &[u8]) -> Result<Whole, Fil
     if is_received(names, name) {
         return Err(FileFault::AlreadyReceived);
     }
-    let Some(n) = framed_lines(TIF, tif) else {
-        return Err(FileFault::OutOfForm);
+    let n = framed_lines(TIF, tif).ok_or(FileFault::OutOfForm)?;
+    let header = Header {
+        bytes: header_of(TIF, tif),
     };
-    let counts = read_header(name, header_of(TIF, tif)).ok_or(FileFault::OutOfForm)?;
+    let counts = header.read(name).ok_or(FileFault::OutOfForm)?;
     let sum = body_amount(tif, n).ok_or(FileFault::OutOfForm)?;
     let total = footer_amount(footer_of(TIF, tif, n)).ok_or(FileFault::OutOfForm)?;
     if !counts_agree(counts, Count(n as u64)) {

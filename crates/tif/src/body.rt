@@ -17,10 +17,7 @@ pub fn line_amount(line: &[u8]) -> Option<Gross>
     if line[0] != b'1' {
         return None;
     }
-    let Some(v) = read_digits(field(line, GROSS_AMOUNT)) else {
-        return None;
-    };
-    Some(Gross(v))
+    read_digits(field(line, GROSS_AMOUNT)).map(Gross)
 }
 
 // The exact sum of the amounts of n lines, where all are of the right form.

@@ -11,14 +11,8 @@ pub fn footer_amount(footer: &[u8]) -> Option<Gross>
     requires { length footer.now ≡ footer_width }
     ensures { result ≡ footer_amount footer.now }
 {
-    if footer[0] != b'2' {
+    if footer[0] != b'2' || !all_of(Class::Only(b'0'), field(footer, FOOTER_FILLER)) {
         return None;
     }
-    if !all_of(Class::Only(48), field(footer, FOOTER_FILLER)) {
-        return None;
-    }
-    let Some(v) = read_digits(field(footer, TOTAL)) else {
-        return None;
-    };
-    Some(Gross(v))
+    read_digits(field(footer, TOTAL)).map(Gross)
 }

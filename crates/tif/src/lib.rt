@@ -19,6 +19,6 @@ pub use name::{
     NAME_IDENTITY, NAME_RECEIVER, NAME_SENDER, NAME_STEM, TIF_KIND, VERSION, is_actor,
     is_file_stem, is_name,
 };
-pub use reader::{Reader, moved_on, reader_at, shown, tif_line};
+pub use reader::{Reader, tif_line};
 pub use received::{is_received, names_whole};
 pub use side::{Side, is_sided, side_in, side_of};

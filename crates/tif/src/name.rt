@@ -40,10 +40,7 @@ pub const VERSION: [u8; 6] = *b"130001";
 pub fn is_actor(s: &[u8]) -> bool
     ensures { result ≡ is_actor s.now }
 {
-    if s.len() != 6 {
-        return false;
-    }
-    all_of(Class::DigitOrCapital, s)
+    s.len() == 6 && all_of(Class::DigitOrCapital, s)
 }
 
 // Whether the text is digits, and not all of them 0.
@@ -52,10 +49,7 @@ fn is_sequence(s: &[u8]) -> bool
     requires { length s.now ≤ 15 }
     ensures { result ≡ is_sequence s.now }
 {
-    let Some(v) = read_digits(s) else {
-        return false;
-    };
-    v != 0
+    read_digits(s).is_some_and(|v| v != 0)
 }
 
 // Whether the text is an actor, a real date and a sequence of that day.
@@ -63,16 +57,10 @@ fn is_sequence(s: &[u8]) -> bool
 pub fn is_file_stem(s: &[u8]) -> bool
     ensures { result ≡ is_file_stem s.now }
 {
-    if s.len() != 18 {
-        return false;
-    }
-    if !is_actor(field(s, STEM_ACTOR)) {
-        return false;
-    }
-    if !is_date(field(s, STEM_DATE)) {
-        return false;
-    }
-    is_sequence(field(s, STEM_SEQUENCE))
+    s.len() == 18
+        && is_actor(field(s, STEM_ACTOR))
+        && is_date(field(s, STEM_DATE))
+        && is_sequence(field(s, STEM_SEQUENCE))
 }
 
 // Whether the text is the name of a TIF (E1).
@@ -80,23 +68,11 @@ pub fn is_file_stem(s: &[u8]) -> bool
 pub fn is_name(name: &[u8]) -> bool
     ensures { result ≡ is_name name.now }
 {
-    if name.len() != NAME_LENGTH {
-        return false;
-    }
-    if !is_same(field(name, NAME_KIND), &TIF_KIND) {
-        return false;
-    }
-    if !is_file_stem(field(name, NAME_STEM)) {
-        return false;
-    }
-    if name[FIRST_JOINT] != b'_' {
-        return false;
-    }
-    if !is_actor(field(name, NAME_RECEIVER)) {
-        return false;
-    }
-    if name[SECOND_JOINT] != b'_' {
-        return false;
-    }
-    is_same(field(name, NAME_VERSION), &VERSION)
+    name.len() == NAME_LENGTH
+        && is_same(field(name, NAME_KIND), &TIF_KIND)
+        && is_file_stem(field(name, NAME_STEM))
+        && name[FIRST_JOINT] == b'_'
+        && is_actor(field(name, NAME_RECEIVER))
+        && name[SECOND_JOINT] == b'_'
+        && is_same(field(name, NAME_VERSION), &VERSION)
 }

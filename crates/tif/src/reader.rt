@@ -19,42 +19,35 @@ fn line_at(file: &[u8], at: usize) -> &[u8]
     requires { at + line_width ≤ length file.now }
     ensures { result.now ≡ line_from at file.now }
 {
-    let end = at + WIDTH;
-    &file[at..end]
+    &file[at..at + WIDTH]
 }
 
-// A reader of the file at a place.
-pub fn reader_at<'a>(file: &'a [u8], at: usize) -> Reader<'a>
-    ensures { (result.file ≡ file.entry) × (result.at ≡ at) }
-{
-    Reader { file, at }
-}
-
-// The line at the reader's place, as that part of the file.
-pub fn shown<'a>(r: Reader<'a>) -> &'a [u8]
-    requires { r.at + line_width ≤ length r.file.now }
-    ensures { result.now ≡ line_from r.entry.at r.entry.file.now }
-{
-    line_at(r.file, r.at)
-}
-
-// The reader at the next line.
-pub fn moved_on<'a>(r: Reader<'a>) -> Reader<'a>
-    requires { r.at + line_width < 2 ^ 64 }
-    ensures { (result.file ≡ r.entry.file) × (result.at ≡ r.entry.at + line_width) }
-{
-    Reader {
-        file: r.file,
-        at: r.at + WIDTH,
+impl<'a> Reader<'a> {
+    // A reader of the file at a place.
+    pub fn new(file: &'a [u8], at: usize) -> Self
+        ensures { (result.file ≡ file.entry) × (result.at ≡ at) }
+    {
+        Reader { file, at }
     }
-}
 
-// What a reader of the file shows at a place.
-fn read_line(file: &[u8], at: usize) -> &[u8]
-    requires { at + line_width ≤ length file.now }
-    ensures { result.now ≡ line_from at file.now }
-{
-    shown(reader_at(file, at))
+    // The line at the reader's place, as that part of the file.
+    pub fn shown(self) -> &'a [u8]
+        requires { self.at + line_width ≤ length self.file.now }
+        ensures { result.now ≡ line_from self.entry.at self.entry.file.now }
+    {
+        line_at(self.file, self.at)
+    }
+
+    // The reader at the next line.
+    pub fn moved_on(self) -> Self
+        requires { self.at + line_width < 2 ^ 64 }
+        ensures { (result.file ≡ self.entry.file) × (result.at ≡ self.entry.at + line_width) }
+    {
+        Reader {
+            at: self.at + WIDTH,
+            ..self
+        }
+    }
 }
 
 // Line k of a TIF, counted from 0. Every loop over lines takes them here.
@@ -63,6 +56,5 @@ pub fn tif_line(tif: &[u8], k: usize) -> &[u8]
     requires { line_place tif_layout k + line_width ≤ length tif.now }
     ensures { result.now ≡ line_of tif_layout tif.now k }
 {
-    let at = TIF.header + k * TIF.line;
-    read_line(tif, at)
+    Reader::new(tif, TIF.header + k * TIF.line).shown()
 }

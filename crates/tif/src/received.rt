@@ -24,12 +24,5 @@ pub fn is_received(names: &[u8], name: &[u8]) -> bool
     ensures { result ≡ is_received names.now name.now }
 {
     let n = names.len() / NAME_LENGTH;
-    let mut k = 0;
-    while k < n {
-        if is_same(line_of(NAMES, names, k), name) {
-            return true;
-        }
-        k += 1;
-    }
-    false
+    (0..n).any(|k| is_same(line_of(NAMES, names, k), name))
 }

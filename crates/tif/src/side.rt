@@ -25,9 +25,6 @@ impl Side {
     }
 }
 
-// A file of fewer bytes has no side.
-const SIDE_END: usize = 76;
-
 // The side that a text names, and neither where it is another text.
 #[tactic(auto, unfolding(crate::specs::Side::side_in, lines::specs::FirstOf::first_of))]
 pub fn side_in(text: &[u8]) -> Side
@@ -47,7 +44,7 @@ pub fn side_in(text: &[u8]) -> Side
 pub fn side_of(tif: &[u8]) -> Side
     ensures { result ≡ side_of tif.now }
 {
-    if tif.len() < SIDE_END {
+    if tif.len() < SIDE.to {
         return Side::Neither;
     }
     side_in(field(tif, SIDE))

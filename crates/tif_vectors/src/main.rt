@@ -4,15 +4,7 @@
 use frames::{Kind, print_bytes, print_line_feed, print_number, read_kind, read_part};
 use std::io;
 use std::io::{Read, Write};
-use tif::{FileFault, Side, Whole, acceptance_of, is_name, names_whole, side_of};
-
-fn print_side(to: &mut impl Write, side: Side) -> io::Result<()> {
-    match side {
-        Side::Credit => print_bytes(to, b"CRE"),
-        Side::Debit => print_bytes(to, b"DEB"),
-        Side::Neither => print_bytes(to, b"000"),
-    }
-}
+use tif::{FileFault, Whole, acceptance_of, is_name, names_whole, side_of};
 
 fn print_whole(to: &mut impl Write, whole: Whole) -> io::Result<()> {
     print_bytes(to, b"00 ")?;
@@ -44,7 +36,7 @@ fn print_answer(to: &mut impl Write, name: &[u8], names: &[u8], tif: &[u8]) -> i
     }
     print_acceptance(to, acceptance_of(name, names, tif))?;
     print_bytes(to, b" ")?;
-    print_side(to, side_of(tif))
+    print_bytes(to, side_of(tif).text())
 }
 
 // A case of a name, received names and a TIF; false where it breaks off or is too long.

@@ -9,66 +9,55 @@ use lines::{
     Class, Count, all_of, field, footer_of, framed_lines, header_of, is_same, line_of, read_digits,
 };
 
-// 500001
-const VERSION_TEXT: [u8; 6] = [53, 48, 48, 48, 48, 49];
+const VERSION_TEXT: [u8; 6] = *b"500001";
 
 // Whether a table is lent: an empty one means that none is.
+#[tactic(auto, unfolding(crate::specs::Form::is_lent))]
 pub fn is_lent(tst: &[u8]) -> bool
     ensures { result ≡ is_lent tst.now }
 {
-    tst.len() != 0
+    !tst.is_empty()
 }
 
 // Whether a header is of the right form and states so many lines.
+#[tactic(auto, unfolding(crate::specs::Form::header_formed, lines::specs::Number::read_digits))]
 fn header_formed(header: &[u8], lines: Count) -> bool
     requires { length header.now ≡ header_width }
     ensures { result ≡ header_formed header.now lines.0 }
 {
-    if header[0] != b'0' {
-        return false;
-    }
-    if !is_same(field(header, VERSION), &VERSION_TEXT) {
-        return false;
-    }
-    let Some(records) = read_digits(field(header, RECORD_COUNT)) else {
-        return false;
-    };
-    Count(records) == lines
+    header[0] == b'0'
+        && is_same(field(header, VERSION), &VERSION_TEXT)
+        && read_digits(field(header, RECORD_COUNT)) == Some(lines.0)
 }
 
 // Whether a line is of the right form.
+#[tactic(auto, unfolding(crate::specs::Form::station_formed, lines::specs::Number::all_digits))]
 fn station_formed(row: &[u8]) -> bool
     requires { length row.now ≡ row_width }
     ensures { result ≡ station_formed row.now }
 {
-    if row[0] != b'1' {
-        return false;
-    }
-    if !all_of(Class::DigitOrCapital, field(row, ACTOR)) {
-        return false;
-    }
-    if !all_of(Class::Digit, field(row, STATION)) {
-        return false;
-    }
-    all_of(Class::Digit, field(row, LANE))
+    row[0] == b'1'
+        && all_of(Class::DigitOrCapital, field(row, ACTOR))
+        && all_of(Class::Digit, field(row, STATION))
+        && all_of(Class::Digit, field(row, LANE))
 }
 
 // Whether each of m lines is of the right form.
+#[tactic(auto, using(lines::specs::BelowLaws::all_zero, lines::specs::BelowLaws::all_more, crate::specs::FormLaws::row_ends), unfolding(crate::specs::Form::stations_formed, crate::specs::Form::station_formed_at))]
 fn stations_formed(tst: &[u8], m: usize) -> bool
     requires { Counted tst_layout (length tst.now) m }
     ensures { result ≡ stations_formed tst.now m }
 {
-    let mut k = 0;
-    while k < m {
+    for k in 0..m {
         if !station_formed(line_of(TST, tst, k)) {
             return false;
         }
-        k += 1;
     }
     true
 }
 
 // Whether a footer is of the right form.
+#[tactic(auto, unfolding(crate::specs::Form::footer_formed))]
 fn footer_formed(footer: &[u8]) -> bool
     requires { length footer.now ≡ footer_width }
     ensures { result ≡ footer_formed footer.now }
@@ -77,28 +66,25 @@ fn footer_formed(footer: &[u8]) -> bool
 }
 
 // Whether header, lines and footer of a table of m lines are of the right form, and no triple stands in it twice.
+#[tactic(auto, using(crate::specs::FormLaws::counted_long, crate::specs::FormLaws::foot_length), unfolding(crate::specs::Form::rows_formed))]
 fn rows_formed(tst: &[u8], m: usize) -> bool
     requires { Counted tst_layout (length tst.now) m }
     ensures { result ≡ rows_formed tst.now m }
 {
-    if !header_formed(header_of(TST, tst), Count(m as u64)) {
-        return false;
-    }
-    if !stations_formed(tst, m) {
-        return false;
-    }
-    if !footer_formed(footer_of(TST, tst, m)) {
-        return false;
-    }
-    all_different(Rows {
+    let rows = Rows {
         layout: TST,
         file: tst,
         spans: &STATION_SPANS,
         count: m,
-    })
+    };
+    header_formed(header_of(TST, tst), Count(m as u64))
+        && stations_formed(tst, m)
+        && footer_formed(footer_of(TST, tst, m))
+        && all_different(rows)
 }
 
 // Whether no table is lent, or one of the right form (E8).
+#[tactic(auto, using(crate::specs::FormLaws::framed_counted), unfolding(crate::specs::Form::table_sound, crate::specs::Form::table_formed, crate::specs::Form::formed_with))]
 pub fn table_sound(tst: &[u8]) -> bool
     ensures { result ≡ table_sound tst.now }
 {

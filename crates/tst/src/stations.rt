@@ -14,8 +14,7 @@ fn station_count(tst: &[u8]) -> usize
     requires { file_length tst_layout 0 ≤ length tst.now }
     ensures { result ≡ stations_of tst.now }
 {
-    let layout = TST;
-    (tst.len() - (layout.header + layout.footer)) / layout.line
+    (tst.len() - (TST.header + TST.footer)) / TST.line
 }
 
 // The lines of a table, by the triples that no two of them share.

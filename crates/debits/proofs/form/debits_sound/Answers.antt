@@ -1,44 +1,25 @@
-use Rattle.std.specs.Prelude.{Some, None}
-use native.Mathlib.Omega.{arith}
-use mathlib.Core.Path.{◌≡◌, sym, ap, ◌∙◌}
+use mathlib.Core.Path.{refl, sym, ◌∙◌}
+use mathlib.Core.Bool.{false≢true}
 use lib.ListN.{length}
-use borrow.Author.Tests.{eq-eqb, ne_eqb, not-true, not-false}
-use Rattle.lines.specs.Rows.{line_count}
-use Rattle.lines.specs.RowsLaws.{count_is, count_not}
-use Rattle.debits.specs.Form.{debit_layout, lines_sound, debits_sound}
+use borrow.Author.Tests.{eq-eqb, ne_eqb}
+use Rattle.debits.specs.FormLaws.{debits_told}
 use Rattle.debits.proofs.form.debits_sound.Goals as goal
-use Rattle.debits.proofs.form.debits_sound.Goals.{In-Some}
+use Rattle.debits.proofs.form.debits_sound.Goals.{then-n-marks, else-n-marks}
 
-pub returns-in_default : goal.returns-in_default
-unfolding debits_sound
-returns-in_default c =
-    let a = c.args in
-    let e : line_count debit_layout (length a.debits.now) ≡ None = cc in
-    rw (count_not debit_layout (length a.debits.now) e)
+pub returns-then-lines_sound : goal.returns-then-lines_sound
+returns-then-lines_sound c =
+    let told = debits_told c.args.debits.now c.args.marks.now c.in-Some.n (sym c.line_count.ensures ∙ c.in-Some.is) in
+    rw told
+    (elim c.if-n-marks.branch [
+      | then-n-marks w ↦ rw (eq-eqb c.in-Some.n (length c.args.marks.now) w.if-n-marks.true, sym w.lines_sound.ensures ∙ sym w.value-is ∙ c.if-lines_sound.true) c.marks_sound.ensures
+      | else-n-marks w ↦ absurd (false≢true (sym (ne_eqb c.in-Some.n (length c.args.marks.now) w.if-n-marks.false) ∙ sym w.value-is ∙ c.if-lines_sound.true))
+    ])
 
--- the number that the length gives, once it gives one
-counted : (c : In-Some) →
-    let a = c.args in
-    line_count debit_layout (length a.debits.now) ≡ Some c.in-Some.n
-counted c = sym c.line_count.ensures ∙ c.in-Some.is
-
-pub lines_sound-requires : goal.lines_sound-requires
-lines_sound-requires c = omega (arith, (count_is _ _ _ (counted (goal.at.lines_sound-requires c).In-Some)).2.long)
-
-pub returns-then-not-lines_sound : goal.returns-then-not-lines_sound
-unfolding debits_sound
-returns-then-not-lines_sound c =
-    let is = count_is _ _ _ (counted (goal.at.returns-then-not-lines_sound c).In-Some) in
-    rw (is.0, ap (lines_sound _) (sym is.1) ∙ sym c.lines_sound.ensures ∙ not-true _ c.if-not-lines_sound.true-raw)
-
-pub returns-then-n-marks : goal.returns-then-n-marks
-unfolding debits_sound
-returns-then-n-marks c =
-    let is = count_is _ _ _ (counted (goal.at.returns-then-n-marks c).In-Some) in
-    rw (is.0, ap (lines_sound _) (sym is.1) ∙ sym c.lines_sound.ensures ∙ not-false _ c.if-not-lines_sound.false-raw, ← is.1, ne_eqb _ _ c.if-n-marks.true)
-
-pub returns : goal.returns
-unfolding debits_sound
-returns c =
-    let is = count_is _ _ _ (counted (goal.at.returns c).In-Some) in
-    rw (is.0, ap (lines_sound _) (sym is.1) ∙ sym c.lines_sound.ensures ∙ not-false _ c.if-not-lines_sound.false-raw, ← is.1, eq-eqb _ _ c.if-n-marks.false) c.marks_sound.ensures
+pub returns-else-lines_sound : goal.returns-else-lines_sound
+returns-else-lines_sound c =
+    let told = debits_told c.args.debits.now c.args.marks.now c.in-Some.n (sym c.line_count.ensures ∙ c.in-Some.is) in
+    rw (told, c.if-lines_sound.false)
+    (elim c.if-n-marks.branch [
+      | then-n-marks w ↦ rw (eq-eqb c.in-Some.n (length c.args.marks.now) w.if-n-marks.true, sym w.lines_sound.ensures ∙ sym w.value-is ∙ c.if-lines_sound.false) refl
+      | else-n-marks w ↦ rw (ne_eqb c.in-Some.n (length c.args.marks.now) w.if-n-marks.false) refl
+    ])

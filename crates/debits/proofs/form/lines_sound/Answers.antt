@@ -1,6 +1,5 @@
 use native.Mathlib.Omega.{arith}
 use mathlib.Core.Path.{◌≡◌, sym, ap, ◌∙◌}
-use borrow.Author.Tests.{not-true}
 use Rattle.lines.specs.BelowLaws.{all_fails}
 use Rattle.debits.specs.Form.{debit_sound, debit_sound_at, lines_sound}
 use Rattle.debits.proofs.form.lines_sound.Goals as goal
@@ -8,5 +7,5 @@ use Rattle.debits.proofs.form.lines_sound.Goals as goal
 pub returns-then-not-debit_sound : goal.returns-then-not-debit_sound
 unfolding lines_sound debit_sound_at
 returns-then-not-debit_sound c =
-    let told : c.debit_sound.result ≡ debit_sound_at c.args.debits.now c.loop-j.j = c.debit_sound.ensures ∙ ap debit_sound c.line_of.ensures in
-    sym (all_fails _ _ c.loop-j.j (omega arith) (sym told ∙ not-true _ c.if-not-debit_sound.true-raw))
+    let told : debit_sound_at c.args.debits.now c.loop-j.j ≡ c.debit_sound.result = sym (c.debit_sound.ensures ∙ ap debit_sound c.line_of.ensures) in
+    sym (all_fails _ _ c.loop-j.j (omega arith) (told ∙ c.if-not-debit_sound.true))

@@ -1,4 +1,3 @@
-use Prim.Native.Nat.{◌-◌, ◌≤◌}
 use mathlib.Core.Path.{◌≡◌}
 use mathlib.Core.Bool.{true}
 use Rattle.lines.specs.Below.{all_below}
@@ -6,7 +5,4 @@ use Rattle.debits.specs.Form.{debit_sound_at}
 use Rattle.debits.proofs.form.lines_sound.Given as goal
 
 abbrev pub invariant-loop-j : goal.invariant-loop-j
-invariant-loop-j l = (all_below l.j (debit_sound_at l.debits) ≡ true) × (l.j ≤ l.n)
-
-abbrev pub decreases-loop-j : goal.decreases-loop-j
-decreases-loop-j l = l.n - l.j
+invariant-loop-j l = all_below l.j (debit_sound_at l.debits) ≡ true

@@ -1,13 +1,8 @@
-use Prim.Native.Nat.{◌-◌, ◌≤◌}
 use mathlib.Core.Path.{◌≡◌}
 use mathlib.Core.Bool.{false}
-use lib.ListN.{length}
 use Rattle.lines.specs.Below.{some_below}
 use Rattle.debits.specs.Taking.{free_for}
 use Rattle.debits.proofs.taking.first_free.Given as goal
 
 abbrev pub invariant-loop-j : goal.invariant-loop-j
-invariant-loop-j l = (some_below l.j (free_for l.debits l.marks l.credit) ≡ false) × (l.j ≤ length l.marks)
-
-abbrev pub decreases-loop-j : goal.decreases-loop-j
-decreases-loop-j l = length l.marks - l.j
+invariant-loop-j l = some_below l.j (free_for l.debits l.marks l.credit) ≡ false

@@ -1,4 +1,3 @@
-use Prim.Native.Nat.{◌-◌, ◌≤◌}
 use mathlib.Core.Path.{◌≡◌}
 use mathlib.Core.Bool.{true}
 use Rattle.lines.specs.Below.{all_below}
@@ -6,7 +5,4 @@ use Rattle.tst.specs.Form.{station_formed_at}
 use Rattle.tst.proofs.form.stations_formed.Given as goal
 
 abbrev pub invariant-loop-k : goal.invariant-loop-k
-invariant-loop-k l = (all_below l.k (station_formed_at l.tst) ≡ true) × (l.k ≤ l.m)
-
-abbrev pub decreases-loop-k : goal.decreases-loop-k
-decreases-loop-k l = l.m - l.k
+invariant-loop-k l = all_below l.k (station_formed_at l.tst) ≡ true
