@@ -7,7 +7,7 @@ use answers::{
     Answer, CallFault, FileAnswer, Summary, check_call, file_answer, head_of, is_too_small,
     put_tic, summarize, summarize_refused, sums_told,
 };
-use judging::judge_lines;
+use judging::Judging;
 use lines::{field, put_bytes};
 use tif::{NAME_SENDER, Whole, acceptance_of, side_of};
 
@@ -26,16 +26,15 @@ fn judge_parts(
     requires { LinesReady name.now book.now debits.now (take m mine.old) tif.now tst.now n words.old × (m ≤ length mine.old) }
     ensures { Filled name.now book.now debits.now (take m mine.old) tif.now tst.now n words.old mine.new words.new }
 {
-    judge_lines(
-        side_of(tif),
-        field(name, NAME_SENDER),
+    let judging = Judging {
+        side: side_of(tif),
+        sender: field(name, NAME_SENDER),
         book,
         debits,
-        &mut mine[0..m],
         tif,
         tst,
-        &mut words[0..n],
-    );
+    };
+    judging.judge_lines(&mut mine[0..m], &mut words[0..n]);
 }
 
 // Copies the marks, and judges on the copy. Nothing of the caller's is written but words.
