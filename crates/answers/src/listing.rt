@@ -6,7 +6,7 @@ ghost use Rattle.answers.specs.Listing.{number_at, refused_at, refused_before, r
 
 use crate::card::code_of;
 use lines::field;
-use tic_text::{TicHead, TicSums, put_footer, put_header, put_listed};
+use tic_text::{Received, TicHead, TicSums, put_footer, put_header, put_listed};
 use tif::{NAME_RECEIVER, NAME_STEM, tif_line};
 
 // The paper's number of the verdict on line k.
@@ -57,14 +57,12 @@ pub fn put_tic(
     requires { TicRoom name.now received.now card.now tif.now words.now head out.old }
     ensures { Put (tic_text (tic_of name.now received.now card.now tif.now words.now head sums)) 0 out.old result out.new }
 {
-    let mid = put_header(
-        out,
-        0,
-        field(name, NAME_RECEIVER),
-        field(name, NAME_STEM),
-        received,
-        head,
-    );
+    let told = Received {
+        receiver: field(name, NAME_RECEIVER),
+        stem: field(name, NAME_STEM),
+        moment: received,
+    };
+    let mid = put_header(out, 0, told, head);
     let mid = put_lines(tif, card, words, out, mid);
     put_footer(out, mid, sums)
 }

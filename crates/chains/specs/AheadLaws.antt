@@ -1,5 +1,5 @@
 -- How rising chains are made and followed, and how they stand in an array. Assumes nothing.
-use Rattle.std.specs.Prelude.{◌≡◌, refl, Bool, true, false, List, ℕ, zero, suc, ◌+◌, ◌-◌, ◌≤◌, ◌<◌, length, get_or, eqb, ltb}
+use Rattle.std.specs.Prelude.{◌≡◌, refl, Option, Some, None, MatchOption, Bool, true, false, List, ℕ, zero, suc, ◌+◌, ◌-◌, ◌≤◌, ◌<◌, length, get_or, eqb, ltb}
 use Rattle.std.proofs.Common.{sym, ap, ◌∙◌}
 use Rattle.std.proofs.lemmas.Bool.{false≢true}
 use native.Mathlib.Omega.{arith}
@@ -166,6 +166,13 @@ module _ (n : ℕ) (hash : ℕ → ℕ) (free : ℕ → Bool) where
             }
 
 -- ---- in an array with a place for each number
+-- a link read: the number that it names, if that is below n, is one
+pub next_one : (n x : ℕ) (r s : Option ℕ) → MatchOption r (n ≤ x) (λ j. (j ≡ x) × (j < n)) → MatchOption s (n ≤ x) (λ j. (j ≡ x) × (j < n)) → r ≡ s
+next_one n x (Some i) (Some j) g h = ap (λ (k : ℕ). Some k) (g.0 ∙ sym h.0)
+next_one n x (Some i) None g h = absurd (omega arith)
+next_one n x None (Some j) g h = absurd (omega arith)
+next_one n x None None g h = refl
+
 module _ (links links' : List ℕ) where
   pub array_fronted : (n : ℕ) (free : ℕ → Bool) (h k : ℕ) → h < hashes → hashes + k < length links
       → links' ≡ set (set links (hashes + k) (get_or links h 0)) h k → Fronted n free h k (link_at links) (link_at links')

@@ -1,6 +1,7 @@
-// Chains that rise, in one array: a link for each hash, and behind these one for each number. A link leads to the next number of its hash, and past the last number of all where there is none.
-ghost use Rattle.std.specs.Prelude.{◌≡◌, ℕ, ◌+◌, ◌≤◌, ◌<◌, length, get_or, set};
+// Chains that rise, in one array of fixed size: a link for each hash, and behind these one for each number. A link leads to the next number of its hash, and past the last number of all where there is none.
+ghost use Rattle.std.specs.Prelude.{◌≡◌, ℕ, ◌+◌, ◌≤◌, ◌<◌, length, get_or, set, MatchOption};
 ghost use Rattle.chains.specs.Hash.{hashes};
+ghost use Rattle.chains.specs.Ahead.{link_at};
 
 use crate::hash::HASHES;
 
@@ -10,6 +11,16 @@ pub fn clear_ahead(links: &mut [u16], n: usize)
     ensures { (h : ℕ) → h < hashes → get_or links.new h 0 ≡ n }
 {
     links[..HASHES].fill(n as u16);
+}
+
+// The number to which the link at `at` leads, if it is one of the n numbers.
+#[tactic(auto, unfolding(crate::specs::Ahead::link_at))]
+pub fn next_ahead(links: &[u16], at: usize, n: usize) -> Option<usize>
+    requires { at < length links.now }
+    ensures { MatchOption result (n ≤ link_at links.now at) (λ j. (j ≡ link_at links.now at) × (j < n)) }
+{
+    let next = usize::from(links[at]);
+    if next < n { Some(next) } else { None }
 }
 
 // Puts the number k, whose link stands in the slot `at`, in front of the chain of h.

@@ -1,6 +1,6 @@
 ghost use Rattle.std.specs.Prelude.{◌≡◌, true, ◌<◌, length};
 ghost use Rattle.lines.specs.Spans.{spans_in};
-ghost use Rattle.chains.specs.Hash.{hashes, mixed, hash_two, Mixed, Hashed};
+ghost use Rattle.chains.specs.Hash.{hashes, mixed, folded, hash_two, Mixed, Hashed};
 
 use lines::{Columns, field};
 
@@ -26,6 +26,14 @@ fn mix_text(h: usize, text: &[u8]) -> usize
     x
 }
 
+// The upper 12 of 32 bits. The last byte reaches them only when it is mixed once more.
+fn folded(h: usize) -> usize
+    requires { h < 4294967296 }
+    ensures { (result ≡ folded h) × (result < hashes) }
+{
+    mix(h, 0) / 1048576 % HASHES
+}
+
 // The hash of the texts that the spans of the line hold.
 pub fn hash_line(line: &[u8], spans: &[usize]) -> usize
     requires { spans_in (length line.now) spans.now ≡ true }
@@ -39,13 +47,12 @@ pub fn hash_line(line: &[u8], spans: &[usize]) -> usize
         };
         h = mix_text(h, field(line, span));
     }
-    // The last byte reaches the upper bits only when it is mixed once more.
-    mix(h, 0) / 1048576 % 4096
+    folded(h)
 }
 
 // The hash of two texts.
 pub fn hash_two(a: &[u8], b: &[u8]) -> usize
     ensures { (result ≡ hash_two a.now b.now) × (result < hashes) }
 {
-    mix(mix_text(mix_text(0, a), b), 0) / 1048576 % 4096
+    folded(mix_text(mix_text(0, a), b))
 }

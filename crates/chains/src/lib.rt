@@ -6,7 +6,7 @@ mod hash;
 mod indexing;
 mod search;
 
-pub use ahead::{clear_ahead, enter_ahead};
+pub use ahead::{clear_ahead, enter_ahead, next_ahead};
 pub use hash::{HASHES, hash_line, hash_two};
 pub use indexing::{Index, Rows, index_lines};
 pub use search::{Sought, all_different, is_member, is_repeated, last_agreeing};

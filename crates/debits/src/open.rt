@@ -8,7 +8,7 @@ ghost use Rattle.debits.specs.Open.{debit_hash, OpenFrom, Opened, Listed, LeadsT
 
 use crate::form::DEBITS;
 use crate::taking::free_for;
-use chains::{HASHES, clear_ahead, enter_ahead, hash_line};
+use chains::{HASHES, clear_ahead, enter_ahead, hash_line, next_ahead};
 use lines::line_of;
 use passage::CREDIT_SPANS;
 
@@ -49,13 +49,11 @@ fn link_to(debits: &[u8], marks: &[u8], credit: &[u8], links: &[u16]) -> usize
     ensures { LeadsTo debits.now marks.now credit.now links.now result }
 {
     let mut at = hash_line(credit, &CREDIT_SPANS);
-    let mut j = usize::from(links[at]);
-    while j < marks.len() {
+    while let Some(j) = next_ahead(links, at, marks.len()) {
         if free_for(debits, marks, credit, j) {
             return at;
         }
         at = HASHES + j;
-        j = usize::from(links[at]);
     }
     at
 }
@@ -66,10 +64,7 @@ pub fn take_open(debits: &[u8], marks: &mut [u8], credit: &[u8], links: &mut [u1
     ensures { Took debits.now marks.old credit.now result marks.new × Opened debits.now marks.new links.new }
 {
     let at = link_to(debits, marks, credit, links);
-    let j = usize::from(links[at]);
-    if j >= marks.len() {
-        return None;
-    }
+    let j = next_ahead(links, at, marks.len())?;
     links[at] = links[HASHES + j];
     marks[j] = 1;
     Some(j + 1)

@@ -3,7 +3,7 @@ use Rattle.std.specs.Prelude.{◌≡◌, List, [], ◌∷◌, ℕ, length, Resul
 use Rattle.tic_parts.specs.Reading.{read_tic}
 use Rattle.tic.specs.Listed.{listed_line, listed_number}
 use Rattle.tic.specs.Rewriting.{rewritten_for, output_of}
-use Rattle.tic_text.specs.declared.values.TicFault.{TicFault}
+use Rattle.tic_text.specs.declared.fault.TicFault.{TicFault}
 use Rattle.tic_text.specs.declared.values.TicValues.{TicValues}
 use Rattle.tic.specs.declared.listed.ListedPlace.{ListedPlace}
 use Rattle.tic.specs.declared.listed.ListedFault.{ListedFault}

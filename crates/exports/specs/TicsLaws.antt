@@ -1,11 +1,12 @@
 -- What is told, from the case that was found. Assumes nothing.
 use Rattle.std.specs.Prelude.{◌≡◌, List, ℕ, ◌<◌, length, Result}
 use Rattle.std.proofs.Common.{sym, ap, ◌∙◌, arith}
-use Rattle.tic_parts.specs.Reading.{fault_number, read_tic}
+use Rattle.tic_text.specs.Fault.{fault_number}
+use Rattle.tic_parts.specs.Reading.{read_tic}
 use Rattle.tic.specs.Listed.{listed_line, listed_number}
 use Rattle.tic.specs.Rewriting.{Rewrites, rewritten_for}
-use Rattle.tic_text.specs.declared.values.TicFault.{TicFault}
-use Rattle.tic_text.specs.declared.values.TicFault.TheVariants.{Framing, Header, Counts, ListedLine, Footer}
+use Rattle.tic_text.specs.declared.fault.TicFault.{TicFault}
+use Rattle.tic_text.specs.declared.fault.TicFault.TheVariants.{Framing, Header, Counts, ListedLine, Footer}
 use Rattle.tic_text.specs.declared.values.TicValues.{TicValues}
 use Rattle.tic.specs.declared.listed.ListedPlace.{ListedPlace}
 use Rattle.tic.specs.declared.listed.ListedFault.{ListedFault}

@@ -1,11 +1,8 @@
 ghost use Rattle.std.specs.Prelude.{◌≡◌};
 ghost use Rattle.answers.specs.Answer as call;
-ghost use Rattle.tic_parts.specs.Reading.{fault_number};
 ghost use Rattle.exports.specs.Numbers.{side_number};
 
 use answers::CallFault;
-use tic::fault_number;
-use tic_text::TicFault;
 use tif::Side;
 
 pub fn side_number(side: Side) -> u64
@@ -16,13 +13,6 @@ pub fn side_number(side: Side) -> u64
         Side::Credit => 1,
         Side::Debit => 2,
     }
-}
-
-// T1 to T5 in the width of an answer.
-pub fn tic_fault_number(fault: TicFault) -> u32
-    ensures { result ≡ fault_number fault }
-{
-    fault_number(fault) as u32
 }
 
 // E1 to E8 in the width of an answer.

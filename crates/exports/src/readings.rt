@@ -1,7 +1,7 @@
 ghost use Rattle.std.specs.Prelude.{◌≡◌};
 ghost use Rattle.exports.specs.Tics.{values_told, TicRead, LineListed};
 
-use crate::numbers::{side_number, tic_fault_number};
+use crate::numbers::side_number;
 use tic::{ListedFault, listed_line, read_tic};
 use tic_text::TicValues;
 
@@ -37,7 +37,7 @@ pub extern "C" fn quindaf_read_tic(tic: &[u8], values: &mut [u64; 7]) -> u32
             put_values(values, read);
             0
         }
-        Err(fault) => tic_fault_number(fault),
+        Err(fault) => u32::from(fault),
     }
 }
 
@@ -52,6 +52,6 @@ pub extern "C" fn quindaf_listed(tic: &[u8], k: usize, place: &mut [u64; 2]) -> 
             0
         }
         Err(ListedFault::NoSuchLine) => 6,
-        Err(ListedFault::Unreadable(fault)) => tic_fault_number(fault),
+        Err(ListedFault::Unreadable(fault)) => u32::from(fault),
     }
 }

@@ -1,6 +1,5 @@
 ghost use Rattle.exports.specs.Tics.{TicRewritten};
 
-use crate::numbers::tic_fault_number;
 use tic::{RewriteFault, rewrite_tic};
 
 // Writes what was read of a TIC: 0 and the length written, or 1 to 5 for T1 to T5, or 107 for E7, with nothing written.
@@ -13,7 +12,7 @@ pub extern "C" fn quindaf_rewrite_tic(tic: &[u8], out: &mut [u8], length: &mut [
             *length = [n as u64];
             0
         }
-        Err(RewriteFault::Unreadable(fault)) => tic_fault_number(fault),
+        Err(RewriteFault::Unreadable(fault)) => u32::from(fault),
         Err(RewriteFault::TooShort) => 107,
     }
 }

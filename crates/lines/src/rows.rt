@@ -62,12 +62,7 @@ fn lines_end(layout: Layout, file: &[u8], n: usize) -> bool
     requires { file_length layout n ≤ length file.now }
     ensures { result ≡ all_below n (line_feed_at layout file.now) }
 {
-    for k in 0..n {
-        if !one_feed(line_of(layout, file, k)) {
-            return false;
-        }
-    }
-    true
+    (0..n).all(|k| one_feed(line_of(layout, file, k)))
 }
 
 // Whether a line feed stands at the end of each row and nowhere else.

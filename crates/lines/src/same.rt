@@ -9,14 +9,12 @@ fn first_difference(a: &[u8], b: &[u8]) -> usize
     requires { length a.now ≡ length b.now }
     ensures { result ≡ first_difference a.now b.now }
 {
-    let mut i = 0;
-    while i < a.len() {
+    for i in 0..a.len() {
         if a[i] != b[i] {
             return i;
         }
-        i += 1;
     }
-    i
+    a.len()
 }
 
 // The place of the words that decide how texts of one length compare: the first that differ, else the last.
@@ -25,14 +23,13 @@ fn deciding_word(a: &[u8], b: &[u8]) -> usize
     requires { (length a.now ≡ length b.now) × (8 ≤ length a.now) }
     ensures { Decides a.now b.now result }
 {
-    let mut i = 0;
-    while a.len() - i >= 8 {
+    let last = a.len() - 8;
+    for i in (0..last).step_by(8) {
         if word_at(a, i) != word_at(b, i) {
             return i;
         }
-        i += 8;
     }
-    a.len() - 8
+    last
 }
 
 // Whether the texts are of one length and nowhere different.
@@ -50,16 +47,14 @@ pub fn is_same(a: &[u8], b: &[u8]) -> bool
 }
 
 // Whether a, as written, stands before b of the same length.
+#[tactic(auto, unfolding(crate::specs::Same::before))]
 pub fn is_before(a: &[u8], b: &[u8]) -> bool
     requires { length a.now ≡ length b.now }
     ensures { result ≡ before a.now b.now }
 {
     if a.len() < 8 {
         let i = first_difference(a, b);
-        if i >= a.len() {
-            return false;
-        }
-        return a[i] < b[i];
+        return i < a.len() && a[i] < b[i];
     }
     let at = deciding_word(a, b);
     word_at(a, at) < word_at(b, at)

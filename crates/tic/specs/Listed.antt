@@ -3,11 +3,12 @@ use Rattle.std.specs.Prelude.{List, [], ◌∷◌, ℕ, ◌+◌, ◌-◌, take, 
 use Rattle.lines.specs.FirstOf.{Row, ◌⇒◌, first_of}
 use Rattle.lines.specs.Rows.{line_place}
 use Rattle.tic_text.specs.Columns.{tic_layout}
-use Rattle.tic_parts.specs.Reading.{fault_number, read_tic}
+use Rattle.tic_text.specs.Fault.{fault_number}
+use Rattle.tic_parts.specs.Reading.{read_tic}
 use Rattle.tic.specs.declared.listed.ListedPlace.{ListedPlace}
 use Rattle.tic.specs.declared.listed.ListedFault.{ListedFault}
 use Rattle.tic.specs.declared.listed.ListedFault.TheVariants.{NoSuchLine, Unreadable}
-use Rattle.tic_text.specs.declared.values.TicFault.{TicFault}
+use Rattle.tic_text.specs.declared.fault.TicFault.{TicFault}
 use Rattle.tic_text.specs.declared.values.TicValues.{TicValues}
 
 abbrev pub listed_rows : ℕ → ℕ → List (Row (Result ListedPlace ListedFault))

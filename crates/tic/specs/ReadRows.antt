@@ -23,7 +23,7 @@ use Rattle.tif.specs.Header.{nok}
 use Rattle.tif.specs.Name.{is_actor, is_file_stem, tif_kind, version}
 use Rattle.tif.specs.NameLaws.{stem_shows}
 use Rattle.tif.specs.PartLaws.{part_part}
-use Rattle.tif.specs.Side.{side_text}
+use Rattle.tif.specs.Side.{side_text, side_in}
 use Rattle.tif.specs.declared.side.Side.{Side}
 use Rattle.tif.specs.declared.side.Side.TheVariants.{Credit, Debit, Neither}
 use Rattle.tic.specs.ByteLaws.{bytes_part, only_run}
@@ -32,7 +32,7 @@ use Rattle.tic.specs.DigitLaws.{digits_all, number_digits}
 use Rattle.tic.specs.FreeLaws.{digits_free, cards_free, blanks_free, zeros_free, number_free, side_free, actor_shows, stem_free, FeedFree, with_piece, joined_feed}
 use Rattle.tic_text.specs.PieceLaws.{joined_cut}
 use Rattle.tic_text.specs.Pieces.{joined, widths_of, cut_from}
-use Rattle.tic_parts.specs.Reading.{names_one_tif, is_side, side_in, header_formed, header_digits, header_sound, head_of, head_agrees, counts_agree, listed_formed, footer_formed, sums_of}
+use Rattle.tic_parts.specs.Reading.{names_one_tif, is_side, header_formed, header_digits, header_sound, head_of, head_agrees, counts_agree, listed_formed, footer_formed, sums_of}
 use Rattle.tic.specs.RenderedRows.{one_byte, header_widths, listed_widths, footer_widths}
 use Rattle.tic.specs.Sound.{not_feed, line_sound, code_sound}
 use Rattle.tic_text.specs.Text.{tic_kind, zeros, blanks, fifteen, front_pieces, count_pieces, filler_pieces, header_pieces, header_text, listed_pieces, listed_text, footer_pieces, footer_text}

@@ -9,8 +9,8 @@ use Rattle.tif.specs.Acceptance.{is_framed, framed_count}
 use Rattle.tic_text.specs.Columns.{tic_layout}
 use Rattle.tic_parts.specs.Reading.{tic_header, tic_footer, header_sound, head_of, counts_agree, lines_formed, footer_formed, sums_of, sums_fit, listed_sum, read_rows, values_of, read_tic}
 use Rattle.tic_text.specs.declared.values.TicValues.{TicValues}
-use Rattle.tic_text.specs.declared.values.TicFault.{TicFault}
-use Rattle.tic_text.specs.declared.values.TicFault.TheVariants.{Framing, Header, Counts, ListedLine, Footer}
+use Rattle.tic_text.specs.declared.fault.TicFault.{TicFault}
+use Rattle.tic_text.specs.declared.fault.TicFault.TheVariants.{Framing, Header, Counts, ListedLine, Footer}
 
 pub record Readable (tic : List ℕ) (n : ℕ) : Type 0 where
   pub framed : framed_lines tic_layout tic ≡ Some n

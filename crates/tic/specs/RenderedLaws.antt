@@ -27,7 +27,7 @@ use Rattle.tic_text.specs.Text.{Tic, header_text, listed_at, listed_count, foote
 use Rattle.tic_text.specs.TextLaws.{Wide, header_length, listed_at_length, footer_length}
 use Rattle.tic_text.specs.declared.values.TicHead.{TicHead}
 use Rattle.tic_text.specs.declared.values.TicSums.{TicSums}
-use Rattle.tic_text.specs.declared.values.TicFault.{TicFault}
+use Rattle.tic_text.specs.declared.fault.TicFault.{TicFault}
 use Rattle.tic_text.specs.declared.values.TicValues.{TicValues}
 
 -- an acceptance that fits is at most 05

@@ -3,11 +3,12 @@ use Rattle.std.specs.Prelude.{◌≡◌, cond, List, [], ◌∷◌, ℕ, ◌+◌
 use Rattle.lines.specs.Rows.{file_length}
 use Rattle.lines.specs.Splice.{splice}
 use Rattle.tic_text.specs.Columns.{tic_layout, tif_receiver, received_stem, reception_moment, shown_part, code_part}
-use Rattle.tic_parts.specs.Reading.{tic_header, tic_footer, tic_lines, row_at, head_of, sums_of, fault_text, read_tic}
+use Rattle.tic_parts.specs.Reading.{tic_header, tic_footer, tic_lines, row_at, head_of, sums_of, read_tic}
+use Rattle.tic_text.specs.Fault.{fault_text}
 use Rattle.tic_text.specs.Text.{Tic, tic_text}
 use Rattle.tic.specs.declared.rewriting.RewriteFault.{RewriteFault}
 use Rattle.tic.specs.declared.rewriting.RewriteFault.TheVariants.{Unreadable, TooShort}
-use Rattle.tic_text.specs.declared.values.TicFault.{TicFault}
+use Rattle.tic_text.specs.declared.fault.TicFault.{TicFault}
 use Rattle.tic_text.specs.declared.values.TicValues.{TicValues}
 
 -- what reading takes from a TIC

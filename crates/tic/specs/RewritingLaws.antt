@@ -18,7 +18,7 @@ use Rattle.tic_text.specs.TextLaws.{part_length, listed_length, join_even, Wide,
 use Rattle.tic_text.specs.TextLaws as texts
 use Rattle.tic.specs.declared.rewriting.RewriteFault.{RewriteFault}
 use Rattle.tic.specs.declared.rewriting.RewriteFault.TheVariants.{Unreadable, TooShort}
-use Rattle.tic_text.specs.declared.values.TicFault.{TicFault}
+use Rattle.tic_text.specs.declared.fault.TicFault.{TicFault}
 use Rattle.tic_text.specs.declared.values.TicHead.{TicHead}
 use Rattle.tic_text.specs.declared.values.TicSums.{TicSums}
 use Rattle.tic_text.specs.declared.values.TicValues.{TicValues}

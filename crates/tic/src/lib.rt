@@ -9,5 +9,5 @@ pub use listed::{
     Listed, ListedFault, ListedPlace, listed_line, shown_code, shown_identity, shown_line,
     shown_moment, shown_receiver,
 };
-pub use reading::{fault_number, read_tic};
+pub use reading::read_tic;
 pub use rewriting::{RewriteFault, rewrite_tic};

@@ -1,10 +1,11 @@
-ghost use Rattle.std.specs.Prelude.{◌≡◌, ◌≤◌, take, drop};
+ghost use Rattle.std.specs.Prelude.{◌≡◌, ◌-◌, ◌≤◌, take, drop};
 ghost use Rattle.lines.specs.Rows.{most_lines};
 ghost use Rattle.tic.specs.declared.listed.ListedFault.TheVariants.{Unreadable};
 ghost use Rattle.tic.specs.Listed.{listed_place, listed_line, shown_line, shown_code, shown_receiver, shown_identity, shown_moment, shown_part};
 
 use crate::reading::read_tic;
-use tic_text::{TIC, TicFault, TicReading};
+use lines::Columns;
+use tic_text::{RECEIVED_IDENTITY, RECEPTION_MOMENT, TIC, TIF_RECEIVER, TicFault, TicReading};
 
 // Where a listed line begins in the TIC, and where its code does.
 #[derive(Clone, Copy)]
@@ -59,15 +60,8 @@ pub fn listed_line(tic: &[u8], k: usize) -> Listed
 fn part_of(s: &[u8], from: usize, width: usize) -> &[u8]
     ensures { result.now ≡ take width (drop from s.now) }
 {
-    if from > s.len() {
-        return &s[0..0];
-    }
-    let left = s.len() - from;
-    if width > left {
-        return &s[from..];
-    }
-    let to = from + width;
-    &s[from..to]
+    let rest = &s[from.min(s.len())..];
+    &rest[..width.min(rest.len())]
 }
 
 // The listed line as a part of the TIC: columns 1 to 809, and the empty part where there is no place.
@@ -76,7 +70,7 @@ pub fn shown_line(tic: &[u8], listed: Listed) -> &[u8]
 {
     match listed {
         Ok(place) => part_of(tic, place.line, 809),
-        Err(_) => &tic[0..0],
+        Err(_) => &[],
     }
 }
 
@@ -86,18 +80,18 @@ pub fn shown_code(tic: &[u8], listed: Listed) -> &[u8]
 {
     match listed {
         Ok(place) => part_of(tic, place.code, 2),
-        Err(_) => &tic[0..0],
+        Err(_) => &[],
     }
 }
 
-// A part of the header of a TIC that was read, and the empty part of one that was not.
-// The values are named in the arm, so that the proof can tell the case; nothing of them is used.
-fn shown_part(tic: &[u8], reading: TicReading, from: usize, width: usize) -> &[u8]
-    ensures { result.now ≡ shown_part tic.now reading from width }
+// Columns of the header of a TIC that was read, and the empty part of one that was not.
+fn shown_part(tic: &[u8], reading: TicReading, c: Columns) -> &[u8]
+    requires { (1 ≤ c.from) × (c.from ≤ c.to) }
+    ensures { result.now ≡ shown_part tic.now reading (c.from - 1) (c.to - (c.from - 1)) }
 {
     match reading {
-        Err(_) => &tic[0..0],
-        Ok(_read) => part_of(tic, from, width),
+        Ok(_) => part_of(tic, c.from - 1, c.to - (c.from - 1)),
+        Err(_) => &[],
     }
 }
 
@@ -105,19 +99,19 @@ fn shown_part(tic: &[u8], reading: TicReading, from: usize, width: usize) -> &[u
 pub fn shown_receiver(tic: &[u8], reading: TicReading) -> &[u8]
     ensures { result.now ≡ shown_receiver tic.now reading }
 {
-    shown_part(tic, reading, 1, 6)
+    shown_part(tic, reading, TIF_RECEIVER)
 }
 
 // Columns 1 to 21 of the TIF's name.
 pub fn shown_identity(tic: &[u8], reading: TicReading) -> &[u8]
     ensures { result.now ≡ shown_identity tic.now reading }
 {
-    shown_part(tic, reading, 34, 21)
+    shown_part(tic, reading, RECEIVED_IDENTITY)
 }
 
 // The moment of the TIF's reception.
 pub fn shown_moment(tic: &[u8], reading: TicReading) -> &[u8]
     ensures { result.now ≡ shown_moment tic.now reading }
 {
-    shown_part(tic, reading, 55, 14)
+    shown_part(tic, reading, RECEPTION_MOMENT)
 }

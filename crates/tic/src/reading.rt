@@ -1,5 +1,5 @@
 ghost use Rattle.std.specs.Prelude.{◌≡◌};
-ghost use Rattle.tic_parts.specs.Reading.{fault_number, read_tic};
+ghost use Rattle.tic_parts.specs.Reading.{read_tic};
 
 use lines::{footer_of, framed_lines, header_of};
 use tic_parts::{
@@ -12,9 +12,7 @@ use tic_text::{TIC, TicFault, TicReading, TicValues};
 pub fn read_tic(tic: &[u8]) -> TicReading
     ensures { result ≡ read_tic tic.now }
 {
-    let Some(n) = framed_lines(TIC, tic) else {
-        return Err(TicFault::Framing);
-    };
+    let n = framed_lines(TIC, tic).ok_or(TicFault::Framing)?;
     let header = header_of(TIC, tic);
     if !header_sound(header) {
         return Err(TicFault::Header);
@@ -39,17 +37,4 @@ pub fn read_tic(tic: &[u8]) -> TicReading
         listed: n,
         sums,
     })
-}
-
-// The paper's number of a fault, 1 to 5.
-pub fn fault_number(fault: TicFault) -> u64
-    ensures { result ≡ fault_number fault }
-{
-    match fault {
-        TicFault::Framing => 1,
-        TicFault::Header => 2,
-        TicFault::Counts => 3,
-        TicFault::ListedLine => 4,
-        TicFault::Footer => 5,
-    }
 }

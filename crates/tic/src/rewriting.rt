@@ -9,7 +9,7 @@ ghost use Rattle.tic.specs.Rewriting.{tic_of, RowRoom, LinesRoom, WholeRoom, Rew
 use crate::reading::read_tic;
 use lines::{field, header_of, line_of};
 use tic_text::{
-    CODE, RECEIVED_STEM, RECEPTION_MOMENT, SHOWN, TIC, TIF_RECEIVER, TicFault, TicValues,
+    CODE, RECEIVED_STEM, RECEPTION_MOMENT, Received, SHOWN, TIC, TIF_RECEIVER, TicFault, TicValues,
     put_footer, put_header, put_listed,
 };
 
@@ -42,10 +42,8 @@ fn put_rows(out: &mut [u8], from: usize, tic: &[u8], n: usize) -> usize
     ensures { Put (join_below n (listed_at (tic_of tic.now))) from out.old result out.new }
 {
     let mut at = from;
-    let mut k = 0;
-    while k < n {
+    for k in 0..n {
         at = put_row(out, at, line_of(TIC, tic, k));
-        k += 1;
     }
     at
 }
@@ -56,14 +54,14 @@ fn put_tic(out: &mut [u8], tic: &[u8], values: TicValues) -> usize
     ensures { Put (tic_text (tic_of tic.now)) 0 out.old result out.new }
 {
     let header = header_of(TIC, tic);
-    let receiver = field(header, TIF_RECEIVER);
-    let stem = field(header, RECEIVED_STEM);
-    let moment = field(header, RECEPTION_MOMENT);
-    let head = values.head;
-    let sums = values.sums;
-    let at = put_header(out, 0, receiver, stem, moment, head);
+    let received = Received {
+        receiver: field(header, TIF_RECEIVER),
+        stem: field(header, RECEIVED_STEM),
+        moment: field(header, RECEPTION_MOMENT),
+    };
+    let at = put_header(out, 0, received, values.head);
     let at = put_rows(out, at, tic, values.listed);
-    put_footer(out, at, sums)
+    put_footer(out, at, values.sums)
 }
 
 // Reads a TIC and writes what was read, and tells the length written: nothing is written unless it reads and out is long enough.

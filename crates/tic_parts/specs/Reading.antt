@@ -14,28 +14,15 @@ use Rattle.tif.specs.Acceptance.{is_framed, framed_count}
 use Rattle.tif.specs.Every.{every}
 use Rattle.tif.specs.Header.{nok}
 use Rattle.tif.specs.Name.{tif_kind, version, is_actor, is_file_stem}
-use Rattle.tif.specs.Side.{side_text, is_sided}
-use Rattle.tif.specs.declared.side.Side.{Side}
+use Rattle.tif.specs.Side.{side_text, side_in, is_sided}
 use Rattle.tif.specs.declared.side.Side.TheVariants.{Credit, Debit, Neither}
 use Rattle.tic_text.specs.Columns.{tic_layout, tif_receiver, tif_sender, own_kind, own_stem, received_kind, received_stem, received_sender, reception_moment, tic_currency, accepted_field, rejected_field, side_field, accepted_again, rejected_again, tic_version, tic_number, header_filler, acceptance_field, code_part, accepted_sum_field, rejected_sum_field, footer_filler}
 use Rattle.tic_text.specs.Text.{tic_kind}
 use Rattle.tic_text.specs.declared.values.TicHead.{TicHead}
 use Rattle.tic_text.specs.declared.values.TicSums.{TicSums}
 use Rattle.tic_text.specs.declared.values.TicValues.{TicValues}
-use Rattle.tic_text.specs.declared.values.TicFault.{TicFault}
-use Rattle.tic_text.specs.declared.values.TicFault.TheVariants.{Framing, Header, Counts, ListedLine, Footer}
-
--- the paper's number of each answer that refuses: T1 to T5
-abbrev pub fault_number : TicFault → ℕ
-fault_number Framing = 1
-fault_number Header = 2
-fault_number Counts = 3
-fault_number ListedLine = 4
-fault_number Footer = 5
-
--- "T" joined to it
-abbrev pub fault_text : TicFault → List ℕ
-fault_text fault = 84 ∷ (48 + fault_number fault) ∷ []
+use Rattle.tic_text.specs.declared.fault.TicFault.{TicFault}
+use Rattle.tic_text.specs.declared.fault.TicFault.TheVariants.{Framing, Header, Counts, ListedLine, Footer}
 
 -- ---- T2: the header's form
 -- "0"; an actor; names of one TIF, which is real
@@ -91,12 +78,6 @@ unfoldable pub header_sound : List ℕ → Bool
 header_sound h = every (header_tests h)
 
 -- ---- the header's numbers
-abbrev pub side_rows : List ℕ → List (Row Side)
-side_rows s = (same s (side_text Credit) ⇒ Credit) ∷ (same s (side_text Debit) ⇒ Debit) ∷ []
-
-unfoldable pub side_in : List ℕ → Side
-side_in s = first_of (side_rows s) Neither
-
 abbrev pub head_of : List ℕ → TicHead
 head_of h =
     record {

@@ -17,8 +17,8 @@ use Rattle.tic_text.specs.Columns.{tic_layout, accepted_field, rejected_field, a
 use Rattle.tic_parts.specs.Reading.{header_digits, header_sound, head_of, listed_formed, row_at, listed_formed_at, lines_formed, footer_formed, listed_amount, read_rows, values_of, read_tic}
 use Rattle.tic_text.specs.declared.values.TicHead.{TicHead}
 use Rattle.tic_text.specs.declared.values.TicValues.{TicValues}
-use Rattle.tic_text.specs.declared.values.TicFault.{TicFault}
-use Rattle.tic_text.specs.declared.values.TicFault.TheVariants.{Framing}
+use Rattle.tic_text.specs.declared.fault.TicFault.{TicFault}
+use Rattle.tic_text.specs.declared.fault.TicFault.TheVariants.{Framing}
 
 -- a header with its numbers, and how many lines are listed
 pub record Counting (h : List ℕ) (head : TicHead) (n : ℕ) : Type 0 where

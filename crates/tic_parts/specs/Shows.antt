@@ -12,10 +12,10 @@ use Rattle.moment.specs.Moment.{is_moment}
 use Rattle.tif.specs.Every.{every_first, every_rest}
 use Rattle.tif.specs.Header.{nok}
 use Rattle.tif.specs.Name.{tif_kind, version, is_actor, is_file_stem}
-use Rattle.tif.specs.Side.{side_text}
+use Rattle.tif.specs.Side.{side_text, side_in}
 use Rattle.tif.specs.declared.side.Side.TheVariants.{Credit, Debit, Neither}
 use Rattle.tic_text.specs.Columns.{tif_receiver, tif_sender, own_kind, own_stem, received_kind, received_stem, received_sender, reception_moment, tic_currency, accepted_field, rejected_field, side_field, accepted_again, rejected_again, tic_version, tic_number, header_filler}
-use Rattle.tic_parts.specs.Reading.{names_one_tif, is_side, side_in, header_formed, header_sound, head_of, head_agrees, counts_agree}
+use Rattle.tic_parts.specs.Reading.{names_one_tif, is_side, header_formed, header_sound, head_of, head_agrees, counts_agree}
 use Rattle.tic_parts.specs.ReadingLaws.{Numbered, digits_show, sound_digits}
 use Rattle.tic_text.specs.Text.{tic_kind}
 

@@ -16,13 +16,9 @@ fn listed_formed(row: &[u8]) -> bool
     requires { length row.now ≡ 812 }
     ensures { result ≡ listed_formed row.now }
 {
-    if row[0] != b'1' {
-        return false;
-    }
-    if !all_of(Class::Digit, field(row, GROSS_AMOUNT)) {
-        return false;
-    }
-    all_of(Class::DigitOrCapital, field(row, CODE))
+    row[0] == b'1'
+        && all_of(Class::Digit, field(row, GROSS_AMOUNT))
+        && all_of(Class::DigitOrCapital, field(row, CODE))
 }
 
 // Whether each of the n listed lines does (T4).
@@ -31,12 +27,10 @@ pub fn lines_formed(tic: &[u8], n: usize) -> bool
     requires { file_length tic_layout n ≤ length tic.now }
     ensures { result ≡ lines_formed tic.now n }
 {
-    let mut k = 0;
-    while k < n {
+    for k in 0..n {
         if !listed_formed(line_of(TIC, tic, k)) {
             return false;
         }
-        k += 1;
     }
     true
 }
@@ -56,10 +50,8 @@ pub fn listed_sum(tic: &[u8], n: usize) -> Gross
     ensures { result.0 ≡ listed_sum tic.now n }
 {
     let mut sum = Gross(0);
-    let mut k = 0;
-    while k < n {
+    for k in 0..n {
         sum = sum.plus(row_amount(line_of(TIC, tic, k)));
-        k += 1;
     }
     sum
 }

@@ -1,4 +1,4 @@
-ghost use Rattle.std.specs.Prelude.{◌≡◌, true, ◌&&◌, ◌≤◌, eqb, length};
+ghost use Rattle.std.specs.Prelude.{◌≡◌, ◌≤◌};
 ghost use Rattle.lines.specs.Rows.{most_lines};
 ghost use Rattle.tic_parts.specs.Reading.{acceptance_fits, head_agrees, counts_agree, head_of};
 ghost use Rattle.tic_parts.specs.ReadingLaws.{Counting};
@@ -12,31 +12,12 @@ use tif::is_sided;
 fn acceptance_fits(head: TicHead) -> bool
     ensures { result ≡ acceptance_fits head }
 {
-    let accepted = head.accepted;
-    let rejected = head.rejected;
-    let side = head.side;
-    if head.acceptance > 5 {
-        return false;
+    match head.acceptance {
+        0 => is_sided(head.side) && head.rejected.0 == 0,
+        1 => is_sided(head.side) && head.rejected.0 > 0,
+        2..=5 => head.accepted.0 == 0 && head.rejected.0 == 0,
+        _ => false,
     }
-    if head.acceptance > 1 {
-        return all_zero(accepted.0, rejected.0);
-    }
-    if !is_sided(side) {
-        return false;
-    }
-    if head.acceptance == 0 {
-        return rejected.0 == 0;
-    }
-    rejected.0 > 0
-}
-
-fn all_zero(accepted: u64, rejected: u64) -> bool
-    ensures { result ≡ (eqb accepted 0 && eqb rejected 0) }
-{
-    if accepted != 0 {
-        return false;
-    }
-    rejected == 0
 }
 
 // Whether the counts of the header agree with the lines listed and with the acceptance.
@@ -45,18 +26,10 @@ fn head_agrees(head: TicHead, n: usize) -> bool
     requires { n ≤ most_lines }
     ensures { result ≡ head_agrees head n }
 {
-    let accepted = head.accepted;
-    let rejected = head.rejected;
-    if rejected.0 != n as u64 {
-        return false;
-    }
-    if accepted.0 > 9999 {
-        return false;
-    }
-    if accepted.0 + rejected.0 > 9999 {
-        return false;
-    }
-    acceptance_fits(head)
+    head.rejected.0 == n as u64
+        && head.accepted.0 <= 9999
+        && head.accepted.0 + head.rejected.0 <= 9999
+        && acceptance_fits(head)
 }
 
 // Whether the counts agree with each other too (T3).
@@ -65,13 +38,7 @@ pub fn counts_agree(h: &[u8], head: TicHead, n: usize) -> bool
     requires { Counting h.now head n }
     ensures { result ≡ counts_agree h.now n }
 {
-    let accepted = head.accepted;
-    let rejected = head.rejected;
-    if number_of(field(h, ACCEPTED_AGAIN)) != accepted.0 {
-        return false;
-    }
-    if number_of(field(h, REJECTED_AGAIN)) != rejected.0 {
-        return false;
-    }
-    head_agrees(head, n)
+    number_of(field(h, ACCEPTED_AGAIN)) == head.accepted.0
+        && number_of(field(h, REJECTED_AGAIN)) == head.rejected.0
+        && head_agrees(head, n)
 }

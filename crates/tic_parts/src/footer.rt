@@ -10,16 +10,10 @@ pub fn footer_formed(f: &[u8]) -> bool
     requires { length f.now ≡ 128 }
     ensures { result ≡ footer_formed f.now }
 {
-    if f[0] != b'2' {
-        return false;
-    }
-    if !all_of(Class::Digit, field(f, ACCEPTED_SUM)) {
-        return false;
-    }
-    if !all_of(Class::Digit, field(f, REJECTED_SUM)) {
-        return false;
-    }
-    all_of(Class::Only(b'0'), field(f, FOOTER_FILLER))
+    f[0] == b'2'
+        && all_of(Class::Digit, field(f, ACCEPTED_SUM))
+        && all_of(Class::Digit, field(f, REJECTED_SUM))
+        && all_of(Class::Only(b'0'), field(f, FOOTER_FILLER))
 }
 
 // The sums of a footer of the right form.
@@ -27,9 +21,10 @@ pub fn sums_of(f: &[u8]) -> TicSums
     requires { (length f.now ≡ 128) × (footer_formed f.now ≡ true) }
     ensures { result ≡ sums_of f.now }
 {
-    let accepted = Gross(number_of(field(f, ACCEPTED_SUM)));
-    let rejected = Gross(number_of(field(f, REJECTED_SUM)));
-    TicSums { accepted, rejected }
+    TicSums {
+        accepted: Gross(number_of(field(f, ACCEPTED_SUM))),
+        rejected: Gross(number_of(field(f, REJECTED_SUM))),
+    }
 }
 
 // Whether the sums are those that the header and the listed lines determine.
@@ -37,14 +32,5 @@ pub fn sums_of(f: &[u8]) -> TicSums
 pub fn sums_fit(head: TicHead, sums: TicSums, listed: Gross) -> bool
     ensures { result ≡ sums_fit head sums listed.0 }
 {
-    let count = head.accepted;
-    let accepted = sums.accepted;
-    let rejected = sums.rejected;
-    if rejected != listed {
-        return false;
-    }
-    if count.0 > 0 {
-        return true;
-    }
-    accepted == Gross(0)
+    sums.rejected == listed && (head.accepted.0 > 0 || sums.accepted == Gross(0))
 }

@@ -1,15 +1,14 @@
 ghost use Rattle.std.specs.Prelude.{◌≡◌, true, length};
-ghost use Rattle.tic_parts.specs.Reading.{names_one_tif, is_side, header_formed, header_digits, header_sound, side_in, head_of};
+ghost use Rattle.tic_parts.specs.Reading.{names_one_tif, is_side, header_formed, header_digits, header_sound, head_of};
 
 use lines::{Class, Count, all_of, field, is_same, number_of};
 use moment::is_moment;
 use tic_text::{
-    ACCEPTANCE, ACCEPTED, ACCEPTED_AGAIN, CREDIT, CURRENCY, DEBIT, HEADER_FILLER, NO_SIDE, NOK,
-    OWN_KIND, OWN_STEM, RECEIVED_KIND, RECEIVED_SENDER, RECEIVED_STEM, RECEPTION_MOMENT, REJECTED,
-    REJECTED_AGAIN, SIDE, TIC_KIND, TIC_NUMBER, TIC_VERSION, TIF_KIND, TIF_RECEIVER, TIF_SENDER,
-    TicHead, VERSION,
+    ACCEPTANCE, ACCEPTED, ACCEPTED_AGAIN, CURRENCY, HEADER_FILLER, OWN_KIND, OWN_STEM,
+    RECEIVED_KIND, RECEIVED_SENDER, RECEIVED_STEM, RECEPTION_MOMENT, REJECTED, REJECTED_AGAIN,
+    SIDE, TIC_KIND, TIC_NUMBER, TIC_VERSION, TIF_RECEIVER, TIF_SENDER, TicHead,
 };
-use tif::{Side, is_actor, is_file_stem};
+use tif::{NOK, TIF_KIND, VERSION, is_actor, is_file_stem, side_in};
 
 // Whether the header begins as one and all its columns that name the TIF name one real TIF.
 #[tactic(auto, unfolding(crate::specs::Reading::names_one_tif, tif::specs::Every::every))]
@@ -17,39 +16,21 @@ fn names_one_tif(h: &[u8]) -> bool
     requires { length h.now ≡ 196 }
     ensures { result ≡ names_one_tif h.now }
 {
-    if h[0] != b'0' {
-        return false;
-    }
-    if !is_actor(field(h, TIF_RECEIVER)) {
-        return false;
-    }
-    if !is_same(field(h, TIF_SENDER), field(h, RECEIVED_SENDER)) {
-        return false;
-    }
-    if !is_same(field(h, OWN_KIND), &TIC_KIND) {
-        return false;
-    }
-    if !is_same(field(h, OWN_STEM), field(h, RECEIVED_STEM)) {
-        return false;
-    }
-    if !is_same(field(h, RECEIVED_KIND), &TIF_KIND) {
-        return false;
-    }
-    is_file_stem(field(h, RECEIVED_STEM))
+    h[0] == b'0'
+        && is_actor(field(h, TIF_RECEIVER))
+        && is_same(field(h, TIF_SENDER), field(h, RECEIVED_SENDER))
+        && is_same(field(h, OWN_KIND), &TIC_KIND)
+        && is_same(field(h, OWN_STEM), field(h, RECEIVED_STEM))
+        && is_same(field(h, RECEIVED_KIND), &TIF_KIND)
+        && is_file_stem(field(h, RECEIVED_STEM))
 }
 
-// Whether the text is CRE, DEB or 000.
-#[tactic(auto, unfolding(crate::specs::Reading::is_side))]
+// Whether the text is CRE, DEB or 000, as it is where it is that of the side it names.
+#[tactic(auto, unfolding(crate::specs::Reading::is_side, tif::specs::Side::side_in, lines::specs::FirstOf::first_of))]
 fn is_side(s: &[u8]) -> bool
     ensures { result ≡ is_side s.now }
 {
-    if is_same(s, &CREDIT) {
-        return true;
-    }
-    if is_same(s, &DEBIT) {
-        return true;
-    }
-    is_same(s, &NO_SIDE)
+    is_same(s, side_in(s).text())
 }
 
 // Whether the header's other texts are of the right form.
@@ -58,22 +39,12 @@ fn header_formed(h: &[u8]) -> bool
     requires { length h.now ≡ 196 }
     ensures { result ≡ header_formed h.now }
 {
-    if !is_moment(field(h, RECEPTION_MOMENT)) {
-        return false;
-    }
-    if !is_same(field(h, CURRENCY), &NOK) {
-        return false;
-    }
-    if !is_side(field(h, SIDE)) {
-        return false;
-    }
-    if !is_same(field(h, TIC_VERSION), &VERSION) {
-        return false;
-    }
-    if !all_of(Class::Only(b' '), field(h, TIC_NUMBER)) {
-        return false;
-    }
-    all_of(Class::Only(b'0'), field(h, HEADER_FILLER))
+    is_moment(field(h, RECEPTION_MOMENT))
+        && is_same(field(h, CURRENCY), &NOK)
+        && is_side(field(h, SIDE))
+        && is_same(field(h, TIC_VERSION), &VERSION)
+        && all_of(Class::Only(b' '), field(h, TIC_NUMBER))
+        && all_of(Class::Only(b'0'), field(h, HEADER_FILLER))
 }
 
 // Whether counts and acceptance are digits.
@@ -82,19 +53,11 @@ fn header_digits(h: &[u8]) -> bool
     requires { length h.now ≡ 196 }
     ensures { result ≡ header_digits h.now }
 {
-    if !all_of(Class::Digit, field(h, ACCEPTED)) {
-        return false;
-    }
-    if !all_of(Class::Digit, field(h, REJECTED)) {
-        return false;
-    }
-    if !all_of(Class::Digit, field(h, ACCEPTED_AGAIN)) {
-        return false;
-    }
-    if !all_of(Class::Digit, field(h, REJECTED_AGAIN)) {
-        return false;
-    }
-    all_of(Class::Digit, field(h, ACCEPTANCE))
+    all_of(Class::Digit, field(h, ACCEPTED))
+        && all_of(Class::Digit, field(h, REJECTED))
+        && all_of(Class::Digit, field(h, ACCEPTED_AGAIN))
+        && all_of(Class::Digit, field(h, REJECTED_AGAIN))
+        && all_of(Class::Digit, field(h, ACCEPTANCE))
 }
 
 // Whether no column of the header is out of form (T2).
@@ -103,27 +66,7 @@ pub fn header_sound(h: &[u8]) -> bool
     requires { length h.now ≡ 196 }
     ensures { result ≡ header_sound h.now }
 {
-    if !names_one_tif(h) {
-        return false;
-    }
-    if !header_formed(h) {
-        return false;
-    }
-    header_digits(h)
-}
-
-// The side that the text names, and neither where it is another text.
-#[tactic(auto, unfolding(crate::specs::Reading::side_in, lines::specs::FirstOf::first_of))]
-fn side_in(s: &[u8]) -> Side
-    ensures { result ≡ side_in s.now }
-{
-    if is_same(s, &CREDIT) {
-        return Side::Credit;
-    }
-    if is_same(s, &DEBIT) {
-        return Side::Debit;
-    }
-    Side::Neither
+    names_one_tif(h) && header_formed(h) && header_digits(h)
 }
 
 // The numbers of a header whose counts are digits.
@@ -131,14 +74,10 @@ pub fn head_of(h: &[u8]) -> TicHead
     requires { (length h.now ≡ 196) × (header_digits h.now ≡ true) }
     ensures { result ≡ head_of h.now }
 {
-    let acceptance = number_of(field(h, ACCEPTANCE));
-    let side = side_in(field(h, SIDE));
-    let accepted = Count(number_of(field(h, ACCEPTED)));
-    let rejected = Count(number_of(field(h, REJECTED)));
     TicHead {
-        acceptance,
-        side,
-        accepted,
-        rejected,
+        acceptance: number_of(field(h, ACCEPTANCE)),
+        side: side_in(field(h, SIDE)),
+        accepted: Count(number_of(field(h, ACCEPTED))),
+        rejected: Count(number_of(field(h, REJECTED))),
     }
 }

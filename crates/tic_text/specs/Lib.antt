@@ -1,4 +1,5 @@
 pub mod Columns
+pub mod Fault
 pub mod PieceLaws
 pub mod Pieces
 pub mod Text

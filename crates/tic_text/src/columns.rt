@@ -20,6 +20,8 @@ pub const RECEIVED_KIND: Columns = Columns { from: 35, to: 37 };
 
 pub const RECEIVED_STEM: Columns = Columns { from: 38, to: 55 };
 
+pub const RECEIVED_IDENTITY: Columns = Columns { from: 35, to: 55 };
+
 pub const RECEIVED_SENDER: Columns = Columns { from: 38, to: 43 };
 
 pub const RECEPTION_MOMENT: Columns = Columns { from: 56, to: 69 };

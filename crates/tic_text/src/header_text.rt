@@ -6,10 +6,9 @@ ghost use Rattle.tic_text.specs.Text.{actor_pieces, sequence_pieces, front_piece
 
 use crate::columns::STEM_SENDER;
 use crate::text::{put_numbers, put_pair};
-use crate::texts::{CREDIT, DEBIT, NO_SIDE, NOK, TIC_KIND, TIF_KIND, VERSION};
-use crate::values::TicHead;
+use crate::values::{Received, TicHead};
 use lines::{field, put_bytes, put_digits, put_run};
-use tif::Side;
+use tif::{NOK, Side, TIF_KIND, VERSION};
 
 // "0", the TIF's receiver and its sender.
 fn put_actors(out: &mut [u8], at: usize, receiver: &[u8], sender: &[u8]) -> usize
@@ -19,6 +18,9 @@ fn put_actors(out: &mut [u8], at: usize, receiver: &[u8], sender: &[u8]) -> usiz
     let mid = put_run(out, at, 1, b'0');
     put_pair(out, mid, receiver, sender)
 }
+
+// The kind of a file that is a TIC.
+pub const TIC_KIND: [u8; 3] = *b"TIC";
 
 // The TIC's file sequence and that of the TIF received.
 fn put_sequences(out: &mut [u8], at: usize, stem: &[u8]) -> usize
@@ -30,14 +32,14 @@ fn put_sequences(out: &mut [u8], at: usize, stem: &[u8]) -> usize
 }
 
 // The header up to the currency.
-fn put_front(out: &mut [u8], at: usize, receiver: &[u8], stem: &[u8], moment: &[u8]) -> usize
-    requires { FrontRoom receiver.now stem.now moment.now at 72 out.old }
-    ensures { Put (joined (front_pieces receiver.now stem.now moment.now)) at out.old result out.new }
+fn put_front(out: &mut [u8], at: usize, received: Received) -> usize
+    requires { FrontRoom received.receiver.now received.stem.now received.moment.now at 72 out.old }
+    ensures { let r = received.entry in Put (joined (front_pieces r.receiver.now r.stem.now r.moment.now)) at out.old result out.new }
 {
-    let sender = field(stem, STEM_SENDER);
-    let mid = put_actors(out, at, receiver, sender);
-    let mid = put_sequences(out, mid, stem);
-    let mid = put_bytes(out, mid, moment);
+    let sender = field(received.stem, STEM_SENDER);
+    let mid = put_actors(out, at, received.receiver, sender);
+    let mid = put_sequences(out, mid, received.stem);
+    let mid = put_bytes(out, mid, received.moment);
     put_bytes(out, mid, &NOK)
 }
 
@@ -46,11 +48,7 @@ pub fn put_side(out: &mut [u8], at: usize, side: Side) -> usize
     requires { at + 3 ≤ length out.old }
     ensures { Put (side_text side) at out.old result out.new }
 {
-    match side {
-        Side::Credit => put_bytes(out, at, &CREDIT),
-        Side::Debit => put_bytes(out, at, &DEBIT),
-        Side::Neither => put_bytes(out, at, &NO_SIDE),
-    }
+    put_bytes(out, at, side.text())
 }
 
 // Records, side, and the same counts as transactions.
@@ -58,12 +56,9 @@ fn put_counts(out: &mut [u8], at: usize, head: TicHead) -> usize
     requires { at + 63 ≤ length out.old }
     ensures { Put (joined (count_pieces head)) at out.old result out.new }
 {
-    let accepted = head.accepted;
-    let rejected = head.rejected;
-    let side = head.side;
-    let mid = put_numbers(out, at, accepted.0, rejected.0);
-    let mid = put_side(out, mid, side);
-    put_numbers(out, mid, accepted.0, rejected.0)
+    let mid = put_numbers(out, at, head.accepted.0, head.rejected.0);
+    let mid = put_side(out, mid, head.side);
+    put_numbers(out, mid, head.accepted.0, head.rejected.0)
 }
 
 // Version, blanks and zeros.
@@ -86,19 +81,12 @@ fn put_end(out: &mut [u8], at: usize, acceptance: u64) -> usize
     put_run(out, mid, 1, 10)
 }
 
-// Writes a header: receiver and stem are columns 23 to 28 and 4 to 21 of the TIF's name, moment that of its reception.
-pub fn put_header(
-    out: &mut [u8],
-    at: usize,
-    receiver: &[u8],
-    stem: &[u8],
-    moment: &[u8],
-    head: TicHead,
-) -> usize
-    requires { FrontRoom receiver.now stem.now moment.now at 196 out.old }
-    ensures { Put (header_text receiver.now stem.now moment.now head) at out.old result out.new }
+// Writes a header: what it tells of the TIF received, and its numbers.
+pub fn put_header(out: &mut [u8], at: usize, received: Received, head: TicHead) -> usize
+    requires { FrontRoom received.receiver.now received.stem.now received.moment.now at 196 out.old }
+    ensures { let r = received.entry in Put (header_text r.receiver.now r.stem.now r.moment.now head) at out.old result out.new }
 {
-    let mid = put_front(out, at, receiver, stem, moment);
+    let mid = put_front(out, at, received);
     let mid = put_counts(out, mid, head);
     put_end(out, mid, head.acceptance)
 }

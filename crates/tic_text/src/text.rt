@@ -41,10 +41,8 @@ pub fn put_footer(out: &mut [u8], at: usize, sums: TicSums) -> usize
     requires { at + 128 ≤ length out.old }
     ensures { Put (footer_text sums) at out.old result out.new }
 {
-    let accepted = sums.accepted;
-    let rejected = sums.rejected;
     let mid = put_run(out, at, 1, b'2');
-    let mid = put_numbers(out, mid, accepted.0, rejected.0);
+    let mid = put_numbers(out, mid, sums.accepted.0, sums.rejected.0);
     let mid = put_run(out, mid, 96, b'0');
     put_run(out, mid, 1, 10)
 }

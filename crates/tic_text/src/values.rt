@@ -1,5 +1,14 @@
+use crate::fault::TicFault;
 use lines::{Count, Gross};
 use tif::Side;
+
+// What a header tells of the TIF received: columns 23 to 28 and 4 to 21 of its name, and the moment of its reception.
+#[derive(Clone, Copy)]
+pub struct Received<'a> {
+    pub receiver: &'a [u8],
+    pub stem: &'a [u8],
+    pub moment: &'a [u8],
+}
 
 // The numbers of a header.
 #[derive(Clone, Copy)]
@@ -23,16 +32,6 @@ pub struct TicValues {
     pub head: TicHead,
     pub listed: usize,
     pub sums: TicSums,
-}
-
-// Why a TIC does not read: T1 to T5.
-#[derive(Clone, Copy)]
-pub enum TicFault {
-    Framing,
-    Header,
-    Counts,
-    ListedLine,
-    Footer,
 }
 
 // What reading a TIC gives.

@@ -5,7 +5,7 @@ use frames::{Kind, print_bytes, print_line_feed, print_number, read_kind, read_p
 use std::io;
 use std::io::{Read, Write};
 use tic::{
-    ListedFault, ListedPlace, RewriteFault, fault_number, listed_line, read_tic, rewrite_tic,
+    ListedFault, ListedPlace, RewriteFault, listed_line, read_tic, rewrite_tic,
 };
 use tic_text::{TicFault, TicValues};
 use tif::Side;
@@ -15,7 +15,7 @@ const LONGEST: usize = 8192;
 
 fn print_fault(to: &mut impl Write, fault: TicFault) -> io::Result<()> {
     print_bytes(to, b"T")?;
-    print_number(to, fault_number(fault))
+    print_number(to, u64::from(u32::from(fault)))
 }
 
 fn print_side(to: &mut impl Write, side: Side) -> io::Result<()> {

@@ -1,5 +1,5 @@
 use native.Mathlib.Omega.{arith}
-use Prim.Native.Nat.{ℕ, ◌/◌, ◌%◌}
+use Prim.Native.Nat.{ℕ}
 use mathlib.Core.Path.{◌≡◌, sym, ap, ◌∙◌}
 use mathlib.Core.List.{List}
 use Rattle.lines.specs.Spans.{span_count, span_of, span_within}
@@ -30,4 +30,4 @@ pub returns : goal.returns
 unfolding hash_of
 returns c =
     let e : c.loop-m.m ≡ span_count c.args.spans.now = omega arith in
-    record { value = ap (λ (x : ℕ). x / 1048576 % 4096) c.mix.ensures.0 ∙ ap folded (rw e at c.loop-m.invariant.0); small = omega arith }
+    record { value = c.folded.ensures.0 ∙ ap folded (rw e at c.loop-m.invariant.0); small = c.folded.ensures.1 }

@@ -1,5 +1,4 @@
-use native.Mathlib.Omega.{arith}
-use Prim.Native.Nat.{ℕ, ◌/◌, ◌%◌}
+use Prim.Native.Nat.{ℕ}
 use mathlib.Core.Path.{ap, ◌∙◌}
 use Rattle.chains.specs.Hash.{mix_text, folded, hash_two}
 use Rattle.chains.proofs.hash.hash_two.Goals as goal
@@ -7,8 +6,6 @@ use Rattle.chains.proofs.hash.hash_two.Goals as goal
 pub returns : goal.returns
 unfolding hash_two
 returns c = (
-  ap (λ (x : ℕ). x / 1048576 % 4096) c.mix.ensures.0
-      ∙ ap folded c.mix_text-2.ensures.value
-      ∙ ap (λ (x : ℕ). folded (mix_text x c.args.b.now)) c.mix_text.ensures.value,
-  omega arith,
+  c.folded.ensures.0 ∙ ap folded c.mix_text-2.ensures.value ∙ ap (λ (x : ℕ). folded (mix_text x c.args.b.now)) c.mix_text.ensures.value,
+  c.folded.ensures.1,
 )

@@ -1,5 +1,5 @@
 use native.Mathlib.Omega.{arith}
-use mathlib.Core.Path.{◌≡◌, sym, ◌∙◌}
+use mathlib.Core.Path.{◌≡◌, refl, sym, ◌∙◌}
 use lib.ListN.{length}
 use Rattle.chains.specs.Ahead.{link_at}
 use Rattle.debits.specs.Taking.{place_taken}
@@ -16,46 +16,37 @@ hash_line-at-requires c =
     let credit : length c.args.credit.now ≡ 810 = omega arith in
     rw credit
 
-pub bounds-links-at : goal.bounds-links-at
-bounds-links-at c =
-    omega (arith, c.requires.1.long, c.hash_line-at.ensures.small)
-
 pub loop-j-init : goal.loop-j-init
-unfolding link_at
-loop-j-init c =
-    (rw c.hash_line-at.ensures.value (way_start _ _ _ _ c.requires.1.chained _ _ (free_has _ _ _) (hash_small _ _)), c.from-j.ensures)
+loop-j-init c = rw c.hash_line-at.ensures.value (way_start _ _ _ _ c.requires.1.chained _ _ (free_has _ _ _) (hash_small _ _))
+
+pub next_ahead-requires : goal.next_ahead-requires
+next_ahead-requires c = omega (arith, c.requires.1.long, c.loop-j.invariant.stands.within)
 
 pub returns-then-free_for : goal.returns-then-free_for
 unfolding place_taken
 returns-then-free_for c =
+    let is = c.in-Some.ensures.0 in
     record {
-      stands = c.loop-j.invariant.0.stands;
-      leads = sym c.loop-j.invariant.1 ∙ sym (way_hit _ _ _ _ c.requires.1.chained _ _ (free_has _ _ _) c.loop-j.at c.loop-j.j c.loop-j.invariant.0 c.loop-j.invariant.1 (omega arith) (sym c.free_for.ensures ∙ c.if-free_for.true));
+      stands = c.loop-j.invariant.stands;
+      leads = sym is ∙ sym (way_hit _ _ _ _ c.requires.1.chained _ _ (free_has _ _ _) c.loop-j.at c.in-Some.j c.loop-j.invariant is c.in-Some.ensures.1 (sym c.free_for.ensures ∙ c.if-free_for.true));
     }
 
 pub overflow_add-at : goal.overflow_add-at
 overflow_add-at c = omega arith
 
-pub bounds-links-at-in-loop-j : goal.bounds-links-at-in-loop-j
-bounds-links-at-in-loop-j c =
-    omega (arith, c.requires.1.long)
-
 pub loop-j-smaller : goal.loop-j-smaller
 loop-j-smaller c =
-    omega (arith, way_rises _ _ _ _ c.requires.1.chained _ _ (free_has _ _ _) c.loop-j.at c.loop-j.j c.loop-j.invariant.0 c.loop-j.invariant.1 (omega arith))
+    omega (arith, way_rises _ _ _ _ c.requires.1.chained _ _ (free_has _ _ _) c.loop-j.at c.in-Some.j c.loop-j.invariant c.in-Some.ensures.0 c.in-Some.ensures.1)
 
 pub loop-j-preserved : goal.loop-j-preserved
-unfolding link_at
-loop-j-preserved c = (
-  way_more _ _ _ _ c.requires.1.chained _ _ (free_has _ _ _) c.loop-j.at c.loop-j.j c.loop-j.invariant.0 c.loop-j.invariant.1 (omega arith)
-      (sym c.free_for.ensures ∙ c.if-free_for.false),
-  c.from-j-in-loop-j.ensures,
-)
+loop-j-preserved c =
+    way_more _ _ _ _ c.requires.1.chained _ _ (free_has _ _ _) c.loop-j.at c.in-Some.j c.loop-j.invariant c.in-Some.ensures.0 c.in-Some.ensures.1
+    (sym c.free_for.ensures ∙ c.if-free_for.false)
 
 pub returns : goal.returns
 unfolding place_taken
 returns c =
     record {
-      stands = c.loop-j.invariant.0.stands;
-      leads = sym c.loop-j.invariant.1 ∙ sym (way_none _ _ _ _ c.requires.1.chained _ _ (free_has _ _ _) c.loop-j.at c.loop-j.j c.loop-j.invariant.0 c.loop-j.invariant.1 (omega arith));
+      stands = c.loop-j.invariant.stands;
+      leads = sym (way_none _ _ _ _ c.requires.1.chained _ _ (free_has _ _ _) c.loop-j.at (link_at c.args.links.now c.loop-j.at) c.loop-j.invariant refl c.in_default.ensures);
     }

@@ -1,13 +1,7 @@
-use Prim.Native.Nat.{◌-◌, ◌≤◌}
-use mathlib.Core.Path.{◌≡◌}
-use mathlib.Core.Bool.{false}
-use lib.ListN.{length}
+use Rattle.std.specs.Prelude.{◌≡◌, false}
 use Rattle.lines.specs.Below.{some_below}
 use Rattle.lines.specs.Same.{differ_at}
 use Rattle.lines.proofs.same.first_difference.Given as goal
 
 abbrev pub invariant-loop-i : goal.invariant-loop-i
-invariant-loop-i l = (some_below l.i (differ_at l.a l.b) ≡ false) × (l.i ≤ length l.a)
-
-abbrev pub decreases-loop-i : goal.decreases-loop-i
-decreases-loop-i l = length l.a - l.i
+invariant-loop-i l = some_below l.i (differ_at l.a l.b) ≡ false

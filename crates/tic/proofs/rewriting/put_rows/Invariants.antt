@@ -1,6 +1,3 @@
-use Prim.Native.Nat.{◌-◌, ◌≤◌}
-use mathlib.Core.Path.{◌≡◌}
-use lib.ListN.{length}
 use Rattle.lines.specs.Below.{join_below}
 use Rattle.lines.specs.Splice.{Put}
 use Rattle.tic.specs.Rewriting.{tic_of}
@@ -8,7 +5,4 @@ use Rattle.tic_text.specs.Text.{listed_at}
 use Rattle.tic.proofs.rewriting.put_rows.Given as goal
 
 abbrev pub invariant-loop-k : goal.invariant-loop-k
-invariant-loop-k l = Put (join_below l.k (listed_at (tic_of l.tic))) l.from l.initial.out l.at l.out × (l.k ≤ l.n) × (length l.out ≡ length l.initial.out)
-
-abbrev pub decreases-loop-k : goal.decreases-loop-k
-decreases-loop-k l = l.n - l.k
+invariant-loop-k l = Put (join_below l.k (listed_at (tic_of l.tic))) l.from l.initial.out l.at l.out

@@ -24,22 +24,22 @@ header_end tic receiver stem moment v at g er es em is =
 pub header_of-header-requires : goal.header_of-header-requires
 header_of-header-requires c = omega (arith, (again _ _ c.requires.reads).long)
 
-pub field-receiver-requires : goal.field-receiver-requires
-field-receiver-requires c = record { first = omega arith; order = omega arith; last = omega (arith, header_long _ _ _ (again _ _ c.requires.reads) c.header_of-header.ensures) }
+pub field-requires : goal.field-requires
+field-requires c = record { first = omega arith; order = omega arith; last = omega (arith, header_long _ _ _ (again _ _ c.requires.reads) c.header_of-header.ensures) }
 
-pub field-stem-requires : goal.field-stem-requires
-field-stem-requires c = record { first = omega arith; order = omega arith; last = omega (arith, header_long _ _ _ (again _ _ c.requires.reads) c.header_of-header.ensures) }
+pub field-requires-2 : goal.field-requires-2
+field-requires-2 c = record { first = omega arith; order = omega arith; last = omega (arith, header_long _ _ _ (again _ _ c.requires.reads) c.header_of-header.ensures) }
 
-pub field-moment-requires : goal.field-moment-requires
-field-moment-requires c = record { first = omega arith; order = omega arith; last = omega (arith, header_long _ _ _ (again _ _ c.requires.reads) c.header_of-header.ensures) }
+pub field-requires-3 : goal.field-requires-3
+field-requires-3 c = record { first = omega arith; order = omega arith; last = omega (arith, header_long _ _ _ (again _ _ c.requires.reads) c.header_of-header.ensures) }
 
 pub put_header-at-requires : goal.put_header-at-requires
 put_header-at-requires c =
     let wide = (again _ _ c.requires.reads).wide in
     record {
-      receiver_long = rw (c.field-receiver.ensures, c.header_of-header.ensures) wide.receiver_long;
-      stem_long = rw (c.field-stem.ensures, c.header_of-header.ensures) wide.stem_long;
-      moment_long = rw (c.field-moment.ensures, c.header_of-header.ensures) wide.moment_long;
+      receiver_long = rw (c.field.ensures, c.header_of-header.ensures) wide.receiver_long;
+      stem_long = rw (c.field-2.ensures, c.header_of-header.ensures) wide.stem_long;
+      moment_long = rw (c.field-3.ensures, c.header_of-header.ensures) wide.moment_long;
       room = omega (arith, c.requires.room);
     }
 
@@ -47,14 +47,14 @@ pub put_rows-at-requires : goal.put_rows-at-requires
 put_rows-at-requires c =
     let g = again _ _ c.requires.reads in
     let h = c.header_of-header.ensures in
-    let end = header_end _ _ _ _ _ _ g (rw h at c.field-receiver.ensures) (rw h at c.field-stem.ensures) (rw h at c.field-moment.ensures) c.put_header-at.ensures.place in
+    let end = header_end _ _ _ _ _ _ g (rw h at c.field.ensures) (rw h at c.field-2.ensures) (rw h at c.field-3.ensures) c.put_header-at.ensures.place in
     record { within = omega (arith, g.long); room = omega (arith, end, c.requires.room) }
 
 pub put_footer-requires : goal.put_footer-requires
 put_footer-requires c =
     let g = again _ _ c.requires.reads in
     let h = c.header_of-header.ensures in
-    let end = header_end _ _ _ _ _ _ g (rw h at c.field-receiver.ensures) (rw h at c.field-stem.ensures) (rw h at c.field-moment.ensures) c.put_header-at.ensures.place in
+    let end = header_end _ _ _ _ _ _ g (rw h at c.field.ensures) (rw h at c.field-2.ensures) (rw h at c.field-3.ensures) c.put_header-at.ensures.place in
     let n = c.args.values.listed in
     omega (arith, end, c.put_rows-at.ensures.place, rows_length c.args.tic.now n (omega (arith, g.long)) n (omega arith), c.requires.room)
 
@@ -64,5 +64,5 @@ returns c =
     let p = c.put_header-at in
     let q = c.put_rows-at in
     let r = c.put_footer in
-    whole_put _ _ (again _ _ c.requires.reads) _ _ _ (rw h at c.field-receiver.ensures) (rw h at c.field-stem.ensures) (rw h at c.field-moment.ensures)
+    whole_put _ _ (again _ _ c.requires.reads) _ _ _ (rw h at c.field.ensures) (rw h at c.field-2.ensures) (rw h at c.field-3.ensures)
     c.args.out.now p.new.out q.new.out r.new.out p.result q.result r.result c.requires.room p.ensures q.ensures r.ensures

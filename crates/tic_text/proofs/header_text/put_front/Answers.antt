@@ -25,7 +25,7 @@ put_actors-mid-requires c =
     let k = c.requires in
     record {
       receiver_long = k.receiver_long;
-      sender_long = rw c.field-sender.ensures (part_length 0 6 c.args.stem.now (omega (arith, k.stem_long)));
+      sender_long = rw c.field-sender.ensures (part_length 0 6 c.args.received.stem.now (omega (arith, k.stem_long)));
       room = omega (arith, k.room);
     }
 
@@ -51,15 +51,15 @@ pub returns : goal.returns
 returns c =
     let a = c.args in
     let k = c.requires in
-    let w = part_length 0 6 a.stem.now (omega (arith, k.stem_long)) in
-    let names = actor_pieces a.receiver.now (cols 1 6 a.stem.now) in
-    let both = names ++ sequence_pieces a.stem.now in
+    let w = part_length 0 6 a.received.stem.now (omega (arith, k.stem_long)) in
+    let names = actor_pieces a.received.receiver.now (cols 1 6 a.received.stem.now) in
+    let both = names ++ sequence_pieces a.received.stem.now in
     let p = c.put_actors-mid in
     let q = c.put_sequences-mid in
     let r = c.put_bytes-mid in
     let s = c.put_bytes in
-    put_piece (both ++ (a.moment.now ∷ [])) nok a.at r.result s.result a.out.now r.new.out s.new.out (omega (arith, w, k.room, k.receiver_long, k.stem_long, k.moment_long))
-    (put_piece both a.moment.now a.at q.result r.result a.out.now q.new.out r.new.out (omega (arith, w, k.room, k.receiver_long, k.stem_long, k.moment_long))
-    (put_pieces names (sequence_pieces a.stem.now) a.at p.result q.result a.out.now p.new.out q.new.out (omega (arith, w, k.room, k.receiver_long)) (rw c.field-sender.ensures at p.ensures) q.ensures)
+    put_piece (both ++ (a.received.moment.now ∷ [])) nok a.at r.result s.result a.out.now r.new.out s.new.out (omega (arith, w, k.room, k.receiver_long, k.stem_long, k.moment_long))
+    (put_piece both a.received.moment.now a.at q.result r.result a.out.now q.new.out r.new.out (omega (arith, w, k.room, k.receiver_long, k.stem_long, k.moment_long))
+    (put_pieces names (sequence_pieces a.received.stem.now) a.at p.result q.result a.out.now p.new.out q.new.out (omega (arith, w, k.room, k.receiver_long)) (rw c.field-sender.ensures at p.ensures) q.ensures)
     r.ensures)
     s.ensures
