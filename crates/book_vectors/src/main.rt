@@ -2,12 +2,14 @@
 #![tactic(auto)]
 
 ghost use Rattle.std.specs.Prelude.{◌≡◌, true};
+ghost use Rattle.std.specs.Option.{ForSome};
 ghost use Rattle.book.specs.Layout.{width};
 ghost use Rattle.book.specs.Form.{book_sound};
+ghost use Rattle.book_vectors.specs.Held.{IsBook};
 
 use book::check_book;
 use cover::{Place, cover_at};
-use frames::{Kind, print_bytes, print_line_feed, print_number, read_kind, read_part};
+use frames::{print_bytes, print_line_feed, print_number, read_part, run_cases};
 use std::io;
 use std::io::{Read, Write};
 
@@ -28,13 +30,17 @@ fn print_cover(to: &mut impl Write, cover: Option<Place>) -> io::Result<()> {
     }
 }
 
+// The book that is held from case to case, in the front of the buffer, once one was sound: no heap.
+#[derive(Drop)]
+struct Held {
+    bytes: [u8; ROOM],
+    size: Option<usize>,
+    ghost sound: { ForSome size (IsBook bytes) },
+}
+
 // Reads a part that has to fill buf.
 fn read_field(from: &mut impl Read, buf: &mut [u8]) -> io::Result<bool> {
-    let part = read_part(from, buf)?;
-    if !part.whole {
-        return Ok(false);
-    }
-    Ok(part.size == buf.len())
+    Ok(read_part(from, buf)? == Some(buf.len()))
 }
 
 // A question: PAN, moment, plate and nation, asked of a sound book.
@@ -45,83 +51,53 @@ fn run_question(from: &mut impl Read, to: &mut impl Write, book: &[u8]) -> io::R
     let mut moment = [0u8; 14];
     let mut plate = [0u8; 10];
     let mut nation = [0u8; 2];
-    if !read_field(from, &mut pan)? {
-        return Ok(false);
+    let whole = read_field(from, &mut pan)?
+        && read_field(from, &mut moment)?
+        && read_field(from, &mut plate)?
+        && read_field(from, &mut nation)?;
+    if whole {
+        print_cover(to, cover_at(book, &pan, &moment, &plate, &nation))?;
     }
-    if !read_field(from, &mut moment)? {
-        return Ok(false);
-    }
-    if !read_field(from, &mut plate)? {
-        return Ok(false);
-    }
-    if !read_field(from, &mut nation)? {
-        return Ok(false);
-    }
-    print_cover(to, cover_at(book, &pan, &moment, &plate, &nation))?;
-    Ok(true)
+    Ok(whole)
 }
 
-fn is_question(kind: Kind) -> bool {
-    match kind {
-        Kind::Of(k) => k == b'Q',
-        Kind::End => false,
-    }
-}
-
-// The questions that follow a sound book, and the kind of the case after them.
-fn run_questions(from: &mut impl Read, to: &mut impl Write, book: &[u8]) -> io::Result<Kind>
-    requires { book_sound width book.now ≡ true }
-{
-    let mut kind = read_kind(from)?;
-    for _ in 0..u64::MAX {
-        if !is_question(kind) {
-            break;
+impl Held {
+    // A book: 1 where it is sound, and then it is held, and 0 where it is not.
+    fn run_book(&mut self, from: &mut impl Read, to: &mut impl Write) -> io::Result<bool> {
+        self.size = None;
+        let Some(size) = read_part(from, &mut self.bytes)? else {
+            return Ok(false);
+        };
+        let sound = check_book(&self.bytes[..size]);
+        if sound {
+            self.size = Some(size);
         }
-        if !run_question(from, to, book)? {
-            return Ok(Kind::End);
-        }
-        kind = read_kind(from)?;
-    }
-    Ok(kind)
-}
-
-// A book: 1 where it is sound, and then its questions, and 0 where it is not; the kind of the case after it.
-fn run_book(from: &mut impl Read, to: &mut impl Write, book: &mut [u8]) -> io::Result<Kind> {
-    let part = read_part(from, book)?;
-    if !part.whole {
-        return Ok(Kind::End);
-    }
-    let size = part.size;
-    if !check_book(&book[0..size]) {
-        print_number(to, 0)?;
+        print_number(to, u64::from(sound))?;
         print_line_feed(to)?;
-        return read_kind(from);
+        Ok(true)
     }
-    print_number(to, 1)?;
-    print_line_feed(to)?;
-    run_questions(from, to, &book[0..size])
-}
 
-fn is_book(kind: Kind) -> bool {
-    match kind {
-        Kind::Of(k) => k == b'B',
-        Kind::End => false,
-    }
-}
-
-// A proved loop has to end, and nothing says that an input does: no run uses up so many turns.
-fn run_cases(from: &mut impl Read, to: &mut impl Write, book: &mut [u8; ROOM]) -> io::Result<()> {
-    let mut kind = read_kind(from)?;
-    for _ in 0..u64::MAX {
-        if !is_book(kind) {
-            break;
+    // A book, or a question on the book that is held; false where the case is neither or breaks off.
+    fn run_case(
+        &mut self,
+        from: &mut impl Read,
+        to: &mut impl Write,
+        kind: u8,
+    ) -> io::Result<bool> {
+        match (kind, self.size) {
+            (b'B', _) => self.run_book(from, to),
+            (b'Q', Some(size)) => run_question(from, to, &self.bytes[..size]),
+            _ => Ok(false),
         }
-        kind = run_book(from, to, book)?;
     }
-    Ok(())
 }
 
 fn main(rt: HostRuntime) -> io::Result<()> {
-    let mut book = [0u8; ROOM];
-    run_cases(&mut rt.reader(), &mut io::writer(&rt), &mut book)
+    let mut held = Held {
+        bytes: [0u8; ROOM],
+        size: None,
+    };
+    run_cases(&mut rt.reader(), &mut io::writer(&rt), |from, to, kind| {
+        held.run_case(from, to, kind)
+    })
 }

@@ -7,6 +7,8 @@ use Rattle.lines.specs.declared.rows.Layout.{Layout}
 use Rattle.chains.specs.Last.{last_below}
 use Rattle.chains.specs.Hash.{hash_of}
 use Rattle.chains.specs.declared.indexing.Index.{Index}
+use Rattle.chains.specs.declared.indexing.Rows.{Rows}
+use Rattle.chains.specs.declared.search.Sought.{Sought}
 
 -- ---- what is asked
 -- line k, by the spans, agrees with the line `other` by the spans ts
@@ -44,6 +46,16 @@ pub record Asked (spans ts other : List ℕ) : Type 0 where
   pub inside : spans_in (length other) ts ≡ true
   pub paired : span_count spans ≡ span_count ts
 
+-- ---- the same, of rows and of what is sought among them
+abbrev pub AreRuled : Rows → Type 0
+AreRuled rows = Ruled rows.layout rows.file.now rows.spans.now rows.count
+
+abbrev pub IsAskable : Rows → Sought → Type 0
+IsAskable rows sought = Asked rows.spans.now sought.spans.now sought.line.now
+
+abbrev pub agrees_at : Rows → Sought → ℕ → Bool
+agrees_at rows sought = agrees_with rows.layout rows.file.now rows.spans.now sought.spans.now sought.line.now
+
 -- ---- the index
 -- the hash of line j
 unfoldable pub hash_at : Layout → List ℕ → List ℕ → ℕ → ℕ
@@ -66,3 +78,10 @@ pub record Indexed (l : Layout) (file spans : List ℕ) (k : ℕ) (index : Index
 pub record Entered (l : Layout) (file spans : List ℕ) (k : ℕ) (old new : Index) : Type 0 where
   pub link : new.links ≡ set old.links k (get_or old.heads (hash_at l file spans k) 0)
   pub head : new.heads ≡ set old.heads (hash_at l file spans k) (k + 1)
+
+-- the rows are indexed, or at least linked
+abbrev pub AreIndexed : Rows → Index → Type 0
+AreIndexed rows index = Indexed rows.layout rows.file.now rows.spans.now rows.count index
+
+abbrev pub AreLinked : Rows → Index → Type 0
+AreLinked rows index = Linked rows.layout rows.file.now rows.spans.now rows.count index.links

@@ -1,5 +1,5 @@
 ghost use Rattle.std.specs.Prelude.{◌≡◌, ◌+◌, replicate};
-ghost use Rattle.chains.specs.Index.{Ruled, Indexed, Entered};
+ghost use Rattle.chains.specs.Index.{Ruled, AreRuled, AreIndexed, Entered};
 
 use crate::hash::hash_line;
 use lines::{Layout, line_of};
@@ -46,8 +46,8 @@ fn enter(rows: Rows, k: usize, index: &mut Index)
 
 // Chains the lines by the hash of their spans; what the index held before does not matter.
 pub fn index_lines(rows: Rows, index: &mut Index)
-    requires { Ruled rows.layout rows.file.now rows.spans.now rows.count }
-    ensures { Indexed rows.entry.layout rows.entry.file.now rows.entry.spans.now rows.entry.count index.new }
+    requires { AreRuled rows }
+    ensures { AreIndexed rows.entry index.new }
 {
     index.heads.fill(0);
     for k in 0..rows.count {

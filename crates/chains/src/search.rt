@@ -1,6 +1,6 @@
 ghost use Rattle.std.specs.Prelude.{◌≡◌, ◌<◌};
 ghost use Rattle.chains.specs.Last.{last_place};
-ghost use Rattle.chains.specs.Index.{Ruled, Asked, Linked, Indexed, agrees_with, member_of, repeated_at, all_different};
+ghost use Rattle.chains.specs.Index.{AreRuled, IsAskable, AreLinked, AreIndexed, agrees_at, member_of, repeated_at, all_different};
 ghost use Rattle.chains.specs.Chain.{Walk};
 
 use crate::hash::hash_line;
@@ -17,7 +17,7 @@ pub struct Sought<'a> {
 // The last line below `start` that agrees with the sought one, counted from 0. Only lines of the chain from `start` are looked at.
 fn walk(rows: Rows, index: &Index, start: usize, sought: Sought) -> Option<usize>
     requires { Walk rows.layout rows.file.now rows.spans.now start index.now.links sought.spans.now sought.line.now }
-    ensures { result ≡ last_place start (agrees_with rows.entry.layout rows.entry.file.now rows.entry.spans.now sought.entry.spans.now sought.entry.line.now) }
+    ensures { result ≡ last_place start (agrees_at rows.entry sought.entry) }
 {
     let mut link = start;
     while let Some(j) = link.checked_sub(1) {
@@ -32,10 +32,10 @@ fn walk(rows: Rows, index: &Index, start: usize, sought: Sought) -> Option<usize
 
 // The last of the indexed rows that agrees with the sought line, counted from 0.
 pub fn last_agreeing(rows: Rows, index: &Index, sought: Sought) -> Option<usize>
-    requires ruled { Ruled rows.layout rows.file.now rows.spans.now rows.count }
-    requires indexed { Indexed rows.layout rows.file.now rows.spans.now rows.count index.now }
-    requires asked { Asked rows.spans.now sought.spans.now sought.line.now }
-    ensures { result ≡ last_place rows.entry.count (agrees_with rows.entry.layout rows.entry.file.now rows.entry.spans.now sought.entry.spans.now sought.entry.line.now) }
+    requires ruled { AreRuled rows }
+    requires indexed { AreIndexed rows index.now }
+    requires asked { IsAskable rows sought }
+    ensures { result ≡ last_place rows.entry.count (agrees_at rows.entry sought.entry) }
 {
     let h = hash_line(sought.line, sought.spans);
     walk(rows, index, usize::from(index.heads[h]), sought)
@@ -44,9 +44,9 @@ pub fn last_agreeing(rows: Rows, index: &Index, sought: Sought) -> Option<usize>
 // Whether one of the indexed rows agrees with the sought line.
 #[tactic(auto, using(crate::specs::LastLaws::last_there), unfolding(crate::specs::Index::member_of))]
 pub fn is_member(rows: Rows, index: &Index, sought: Sought) -> bool
-    requires ruled { Ruled rows.layout rows.file.now rows.spans.now rows.count }
-    requires indexed { Indexed rows.layout rows.file.now rows.spans.now rows.count index.now }
-    requires asked { Asked rows.spans.now sought.spans.now sought.line.now }
+    requires ruled { AreRuled rows }
+    requires indexed { AreIndexed rows index.now }
+    requires asked { IsAskable rows sought }
     ensures { result ≡ member_of rows.entry.layout rows.entry.file.now rows.entry.spans.now rows.entry.count sought.entry.spans.now sought.entry.line.now }
 {
     last_agreeing(rows, index, sought).is_some()
@@ -54,8 +54,8 @@ pub fn is_member(rows: Rows, index: &Index, sought: Sought) -> bool
 
 // Whether an earlier row agrees with row k.
 pub fn is_repeated(rows: Rows, index: &Index, k: usize) -> bool
-    requires ruled { Ruled rows.layout rows.file.now rows.spans.now rows.count }
-    requires linked { Linked rows.layout rows.file.now rows.spans.now rows.count index.now.links }
+    requires ruled { AreRuled rows }
+    requires linked { AreLinked rows index.now }
     requires k_lt_n { k < rows.count }
     ensures { result ≡ repeated_at rows.entry.layout rows.entry.file.now rows.entry.spans.now k }
 {
@@ -68,8 +68,8 @@ pub fn is_repeated(rows: Rows, index: &Index, k: usize) -> bool
 
 #[tactic(auto, using(lines::specs::BelowLaws::all_zero, lines::specs::BelowLaws::all_more, lines::specs::BelowLaws::all_fails), unfolding(crate::specs::Index::all_different, crate::specs::Index::fresh_at))]
 fn none_repeated(rows: Rows, index: &Index) -> bool
-    requires ruled { Ruled rows.layout rows.file.now rows.spans.now rows.count }
-    requires linked { Linked rows.layout rows.file.now rows.spans.now rows.count index.now.links }
+    requires ruled { AreRuled rows }
+    requires linked { AreLinked rows index.now }
     ensures { result ≡ all_different rows.entry.layout rows.entry.file.now rows.entry.spans.now rows.entry.count }
 {
     for k in 0..rows.count {
@@ -82,7 +82,7 @@ fn none_repeated(rows: Rows, index: &Index) -> bool
 
 // Whether no two of the rows agree.
 pub fn all_different(rows: Rows) -> bool
-    requires { Ruled rows.layout rows.file.now rows.spans.now rows.count }
+    requires { AreRuled rows }
     ensures { result ≡ all_different rows.entry.layout rows.entry.file.now rows.entry.spans.now rows.entry.count }
 {
     let mut index = Index::new();

@@ -1,11 +1,10 @@
 // Runs the form of open debits and the taking of debits over cases from standard input, and prints one line for each.
 #![tactic(auto)]
 
-ghost use Rattle.std.specs.Prelude.{◌*◌, ◌≤◌, length, IfOk};
-ghost use Rattle.debits_vectors.specs.Held.{Fits};
+ghost use Rattle.std.specs.Prelude.{◌*◌, ◌≤◌, length, IfOk, IfSome};
 
 use debits::{debits_sound, take_debit};
-use frames::{Kind, print_line_feed, print_marks, print_number, read_kind, read_part};
+use frames::{print_line_feed, print_marks, print_number, read_part, run_cases};
 use passage::WIDTH;
 use std::io;
 use std::io::{Read, Write};
@@ -15,156 +14,103 @@ const MOST: usize = 40;
 
 const ROOM: usize = MOST * WIDTH;
 
-// Whether to go on, and how many debits are held.
-#[derive(Clone, Copy)]
+// The debits that are held from case to case, and their marks, in the fronts of the buffers: no heap.
+#[derive(Drop)]
 struct Held {
-    going: bool,
+    debits: [u8; ROOM],
+    marks: [u8; MOST],
     count: usize,
+    ghost few: { count ≤ 40 },
 }
 
-const STOP: Held = Held {
-    going: false,
-    count: 0,
-};
-
-// Debits and marks: whether they are of the right form. They are held if so, and otherwise none are.
+// Debits and marks: whether they are of the right form. As many are held if so, and otherwise none.
 fn run_form(
     from: &mut impl Read,
     to: &mut impl Write,
     debits: &mut [u8],
     marks: &mut [u8],
-) -> io::Result<Held>
-    ensures { IfOk result (λ held. Fits held.count debits.new marks.new) }
+) -> io::Result<Option<usize>>
+    ensures { IfOk result (λ held. IfSome held (λ count. count ≤ length marks.new)) }
 {
-    let debits_part = read_part(from, debits)?;
-    if !debits_part.whole {
-        return Ok(STOP);
-    }
-    let size = debits_part.size;
-    let marks_part = read_part(from, marks)?;
-    if !marks_part.whole {
-        return Ok(STOP);
-    }
-    let count = marks_part.size;
-    if !debits_sound(&debits[0..size], &marks[0..count]) {
-        print_number(to, 0)?;
-        return Ok(Held {
-            going: true,
-            count: 0,
-        });
-    }
-    print_number(to, 1)?;
-    Ok(Held { going: true, count })
+    let Some(size) = read_part(from, debits)? else {
+        return Ok(None);
+    };
+    let Some(count) = read_part(from, marks)? else {
+        return Ok(None);
+    };
+    let sound = debits_sound(&debits[0..size], &marks[0..count]);
+    print_number(to, u64::from(sound))?;
+    Ok(Some(if sound { count } else { 0 }))
 }
 
-fn print_taken(to: &mut impl Write, answer: Option<usize>) -> io::Result<()> {
-    match answer {
-        Some(number) => print_number(to, number as u64),
-        None => print_number(to, 0),
-    }
-}
-
-// A credit: the number of the debit that it takes, 0 for none.
+// A credit: the number of the debit that it takes of those held, 0 for none.
 fn run_credit(
     from: &mut impl Read,
     to: &mut impl Write,
     debits: &[u8],
     marks: &mut [u8],
+    count: usize,
 ) -> io::Result<bool>
-    requires { length marks.old * 810 ≤ length debits.now }
+    requires { (count * 810 ≤ length debits.now) × (count ≤ length marks.old) }
 {
     let mut credit = [0u8; WIDTH];
-    let part = read_part(from, &mut credit)?;
-    if !part.whole {
+    if read_part(from, &mut credit)? != Some(WIDTH) {
         return Ok(false);
     }
-    if part.size != WIDTH {
-        return Ok(false);
-    }
-    print_taken(to, take_debit(debits, marks, &credit))?;
+    let taken = take_debit(&debits[0..count * WIDTH], &mut marks[0..count], &credit);
+    print_number(to, taken.unwrap_or(0) as u64)?;
     Ok(true)
 }
 
-// The marks as they stand.
-fn run_marks(to: &mut impl Write, marks: &[u8]) -> io::Result<bool> {
-    print_marks(to, marks)?;
-    Ok(true)
-}
-
-// One case of the kind on the debits that are held.
-fn run_kind(
-    from: &mut impl Read,
-    to: &mut impl Write,
-    kind: u8,
-    debits: &mut [u8],
-    marks: &mut [u8],
-    count: usize,
-) -> io::Result<Held>
-    requires { Fits count debits.old marks.old }
-    ensures { IfOk result (λ held. Fits held.count debits.new marks.new) }
-{
-    let size = count * WIDTH;
-    match kind {
-        b'F' => run_form(from, to, debits, marks),
-        b'C' => {
-            let going = run_credit(from, to, &debits[0..size], &mut marks[0..count])?;
-            Ok(Held { going, count })
-        }
-        b'M' => {
-            let going = run_marks(to, &marks[0..count])?;
-            Ok(Held { going, count })
-        }
-        _ => Ok(STOP),
+impl Held {
+    fn run_form(&mut self, from: &mut impl Read, to: &mut impl Write) -> io::Result<bool> {
+        let Some(count) = run_form(from, to, &mut self.debits, &mut self.marks)? else {
+            return Ok(false);
+        };
+        self.count = count;
+        Ok(true)
     }
-}
 
-fn run_case(
-    from: &mut impl Read,
-    to: &mut impl Write,
-    debits: &mut [u8],
-    marks: &mut [u8],
-    count: usize,
-) -> io::Result<Held>
-    requires { Fits count debits.old marks.old }
-    ensures { IfOk result (λ held. Fits held.count debits.new marks.new) }
-{
-    let Kind::Of(kind) = read_kind(from)? else {
-        return Ok(STOP);
-    };
-    let held = run_kind(from, to, kind, debits, marks, count)?;
-    if held.going {
-        print_line_feed(to)?;
+    fn run_credit(&mut self, from: &mut impl Read, to: &mut impl Write) -> io::Result<bool> {
+        let count = self.count;
+        run_credit(from, to, &self.debits, &mut self.marks, count)
     }
-    Ok(held)
-}
 
-// A proved loop has to end, and nothing says that an input does: no run uses up so many turns.
-fn run_cases(
-    from: &mut impl Read,
-    to: &mut impl Write,
-    debits: &mut [u8],
-    marks: &mut [u8],
-) -> io::Result<()> {
-    let mut held = Held {
-        going: true,
-        count: 0,
-    };
-    for _ in 0..u64::MAX {
-        held = run_case(from, to, debits, marks, held.count)?;
-        if !held.going {
-            break;
+    // The marks as they stand.
+    fn run_marks(&self, to: &mut impl Write) -> io::Result<bool> {
+        print_marks(to, &self.marks[0..self.count])?;
+        Ok(true)
+    }
+
+    // One case of the kind; false where the kind is none of these or the case breaks off.
+    fn run_case(
+        &mut self,
+        from: &mut impl Read,
+        to: &mut impl Write,
+        kind: u8,
+    ) -> io::Result<bool> {
+        let whole = match kind {
+            b'F' => self.run_form(from, to)?,
+            b'C' => self.run_credit(from, to)?,
+            b'M' => self.run_marks(to)?,
+            _ => false,
+        };
+        if whole {
+            print_line_feed(to)?;
         }
+        Ok(whole)
     }
-    Ok(())
 }
 
 fn main(rt: HostRuntime) -> io::Result<()> {
-    let mut debits = [0u8; ROOM];
-    let mut marks = [0u8; MOST];
+    let mut held = Held {
+        debits: [0u8; ROOM],
+        marks: [0u8; MOST],
+        count: 0,
+    };
     run_cases(
         &mut rt.reader(),
         &mut io::writer(&rt),
-        &mut debits,
-        &mut marks,
+        |from, to, kind| held.run_case(from, to, kind),
     )
 }

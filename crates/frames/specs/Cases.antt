@@ -1,14 +1,12 @@
 -- What reading a case takes from the bytes that a reader is known to have. Assumes nothing.
-use Rattle.std.specs.Prelude.{◌≡◌, ◌⊎◌, ℕ, ◌<◌, List, [], ◌∷◌, ◌++◌, Option, length, take}
+use Rattle.std.specs.Prelude.{◌≡◌, ◌⊎◌, ℕ, ◌<◌, List, [], ◌∷◌, ◌++◌, Option, Some, None, length, take}
 use Rattle.std.specs.Io.KnownBytes.{Consumes, IsAtEnd}
 use Rattle.lines.specs.Number.{big_endian}
-use Rattle.frames.specs.declared.input.Kind.{Kind}
-use Rattle.frames.specs.declared.input.Kind.TheVariants.{Of, End}
 
 -- the kind is the next byte, which is gone, or there was no byte
-abbrev pub ReadsKind : Option (List ℕ) → Option (List ℕ) → Kind → Type 0
-ReadsKind old new (Of k) = Consumes old new (k ∷ [])
-ReadsKind old new End = IsAtEnd old
+abbrev pub ReadsKind : Option (List ℕ) → Option (List ℕ) → Option ℕ → Type 0
+ReadsKind old new (Some k) = Consumes old new (k ∷ [])
+ReadsKind old new None = IsAtEnd old
 
 -- the next four bytes are that size, and are gone
 pub record ReadsSize (old new : Option (List ℕ)) (size : ℕ) : Type 0 where

@@ -3,31 +3,24 @@
 
 mod answers;
 
-use frames::{Kind, print_line_feed, read_kind, read_part};
+use frames::{print_line_feed, read_part, run_cases};
+use moment::{MomentFault, check_date, check_moment};
 use std::io;
 use std::io::{Read, Write};
 
-// A moment: whether it is real, or what is wrong with it.
-fn run_moment(from: &mut impl Read, to: &mut impl Write) -> io::Result<bool> {
-    let mut buf = [0u8; 64];
-    let part = read_part(from, &mut buf)?;
-    if !part.whole {
+// A moment, or a date by the same rule: whether it is real, or what is wrong with it.
+fn run_checked<F: Fn(&[u8]) -> Result<(), MomentFault>>(
+    from: &mut impl Read,
+    to: &mut impl Write,
+    check: F,
+) -> io::Result<bool>
+    requires { F.IsAlwaysCallable check }
+{
+    let mut text = [0u8; 64];
+    let Some(n) = read_part(from, &mut text)? else {
         return Ok(false);
-    }
-    let n = part.size;
-    answers::print_moment(to, moment::check_moment(&buf[0..n]))?;
-    Ok(true)
-}
-
-// A date, by the same rule.
-fn run_date(from: &mut impl Read, to: &mut impl Write) -> io::Result<bool> {
-    let mut buf = [0u8; 64];
-    let part = read_part(from, &mut buf)?;
-    if !part.whole {
-        return Ok(false);
-    }
-    let n = part.size;
-    answers::print_moment(to, moment::check_date(&buf[0..n]))?;
+    };
+    answers::print_moment(to, check(&text[0..n]))?;
     Ok(true)
 }
 
@@ -35,62 +28,41 @@ fn run_date(from: &mut impl Read, to: &mut impl Write) -> io::Result<bool> {
 fn run_plate(from: &mut impl Read, to: &mut impl Write) -> io::Result<bool> {
     let mut plate = [0u8; 64];
     let mut nation = [0u8; 64];
-    let plate_part = read_part(from, &mut plate)?;
-    if !plate_part.whole {
+    let Some(p) = read_part(from, &mut plate)? else {
         return Ok(false);
-    }
-    let p = plate_part.size;
-    let nation_part = read_part(from, &mut nation)?;
-    if !nation_part.whole {
+    };
+    let Some(n) = read_part(from, &mut nation)? else {
         return Ok(false);
-    }
-    let n = nation_part.size;
+    };
     answers::print_plate(to, &plate[0..p], &nation[0..n])?;
     Ok(true)
 }
 
 // A field of at most 15 bytes: its value, where it is digits.
 fn run_digits(from: &mut impl Read, to: &mut impl Write) -> io::Result<bool> {
-    let mut buf = [0u8; 15];
-    let part = read_part(from, &mut buf)?;
-    if !part.whole {
+    let mut digits = [0u8; 15];
+    let Some(n) = read_part(from, &mut digits)? else {
         return Ok(false);
-    }
-    let n = part.size;
-    answers::print_digits(to, lines::read_digits(&buf[0..n]))?;
+    };
+    answers::print_digits(to, lines::read_digits(&digits[0..n]))?;
     Ok(true)
 }
 
 // One case of the kind; false where the kind is none of these or the case breaks off.
-fn run_kind(from: &mut impl Read, to: &mut impl Write, kind: u8) -> io::Result<bool> {
-    match kind {
-        b'M' => run_moment(from, to),
-        b'D' => run_date(from, to),
-        b'P' => run_plate(from, to),
-        b'N' => run_digits(from, to),
-        _ => Ok(false),
-    }
-}
-
-fn run_case(from: &mut impl Read, to: &mut impl Write) -> io::Result<bool> {
-    let Kind::Of(kind) = read_kind(from)? else {
-        return Ok(false);
+fn run_case(from: &mut impl Read, to: &mut impl Write, kind: u8) -> io::Result<bool> {
+    let whole = match kind {
+        b'M' => run_checked(from, to, check_moment)?,
+        b'D' => run_checked(from, to, check_date)?,
+        b'P' => run_plate(from, to)?,
+        b'N' => run_digits(from, to)?,
+        _ => false,
     };
-    if !run_kind(from, to, kind)? {
-        return Ok(false);
+    if whole {
+        print_line_feed(to)?;
     }
-    print_line_feed(to)?;
-    Ok(true)
+    Ok(whole)
 }
 
-// A proved loop has to end, and nothing says that an input does: no run uses up so many turns.
 fn main(rt: HostRuntime) -> io::Result<()> {
-    let mut from = rt.reader();
-    let mut to = io::writer(&rt);
-    for _ in 0..u64::MAX {
-        if !run_case(&mut from, &mut to)? {
-            break;
-        }
-    }
-    Ok(())
+    run_cases(&mut rt.reader(), &mut io::writer(&rt), run_case)
 }

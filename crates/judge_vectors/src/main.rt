@@ -5,7 +5,7 @@ ghost use Rattle.std.specs.Prelude.{ℕ, ◌<◌};
 ghost use Rattle.judge.specs.Records.{LineKnown};
 
 use answers::{Answer, CallFault, FileAnswer, Summary, answer_code, fault_number};
-use frames::{Kind, print_bytes, print_line_feed, print_marks, print_number, read_kind, read_part};
+use frames::{print_bytes, print_line_feed, print_marks, print_number, read_part, run_cases};
 use judge::{judge_words, lines_to_record};
 use std::io;
 use std::io::{Read, Write};
@@ -162,21 +162,15 @@ fn run_lent(
     let mut tif = [0u8; 16500];
     let mut tst = [0u8; 3000];
     let mut out = [0u8; 16600];
-    let book_part = read_part(from, &mut book)?;
-    let debits_part = read_part(from, &mut debits)?;
-    let marks_part = read_part(from, &mut marks)?;
-    let tif_part = read_part(from, &mut tif)?;
-    let tst_part = read_part(from, &mut tst)?;
-    let out_part = read_part(from, &mut out)?;
-    if !out_part.whole {
+    // A part that is missing counts as empty here, as above.
+    let a = read_part(from, &mut book)?.unwrap_or(0);
+    let b = read_part(from, &mut debits)?.unwrap_or(0);
+    let c = read_part(from, &mut marks)?.unwrap_or(0);
+    let d = read_part(from, &mut tif)?.unwrap_or(0);
+    let e = read_part(from, &mut tst)?.unwrap_or(0);
+    let Some(f) = read_part(from, &mut out)? else {
         return Ok(false);
-    }
-    let a = book_part.size;
-    let b = debits_part.size;
-    let c = marks_part.size;
-    let d = tif_part.size;
-    let e = tst_part.size;
-    let f = out_part.size;
+    };
     run_call(
         to,
         name,
@@ -201,18 +195,14 @@ fn run_parts(from: &mut impl Read, to: &mut impl Write) -> io::Result<bool> {
     let mut card = [0u8; 40];
     let mut names = [0u8; 400];
     let mut records = [0u8; MOST];
-    let name_part = read_part(from, &mut name)?;
-    let received_part = read_part(from, &mut received)?;
-    let card_part = read_part(from, &mut card)?;
-    let names_part = read_part(from, &mut names)?;
-    let records_part = read_part(from, &mut records)?;
-    if !records_part.whole {
+    // A part that is missing counts as empty here: only the last one says whether these are whole.
+    let a = read_part(from, &mut name)?.unwrap_or(0);
+    let b = read_part(from, &mut received)?.unwrap_or(0);
+    let c = read_part(from, &mut card)?.unwrap_or(0);
+    let d = read_part(from, &mut names)?.unwrap_or(0);
+    let Some(room) = read_part(from, &mut records)? else {
         return Ok(false);
-    }
-    let a = name_part.size;
-    let b = received_part.size;
-    let c = card_part.size;
-    let d = names_part.size;
+    };
     run_lent(
         from,
         to,
@@ -220,28 +210,14 @@ fn run_parts(from: &mut impl Read, to: &mut impl Write) -> io::Result<bool> {
         &received[0..b],
         &card[0..c],
         &names[0..d],
-        records_part.size,
+        room,
     )
 }
 
-fn run_case(from: &mut impl Read, to: &mut impl Write) -> io::Result<bool> {
-    let Kind::Of(kind) = read_kind(from)? else {
-        return Ok(false);
-    };
-    if kind != b'C' {
-        return Ok(false);
-    }
-    run_parts(from, to)
+fn run_case(from: &mut impl Read, to: &mut impl Write, kind: u8) -> io::Result<bool> {
+    Ok(kind == b'C' && run_parts(from, to)?)
 }
 
-// A proved loop has to end, and nothing says that an input does: no run uses up so many turns.
 fn main(rt: HostRuntime) -> io::Result<()> {
-    let mut from = rt.reader();
-    let mut to = io::writer(&rt);
-    for _ in 0..u64::MAX {
-        if !run_case(&mut from, &mut to)? {
-            break;
-        }
-    }
-    Ok(())
+    run_cases(&mut rt.reader(), &mut io::writer(&rt), run_case)
 }

@@ -9,7 +9,7 @@ ghost use Rattle.judging_vectors.specs.Cases.{Ready};
 
 use book::check_book;
 use debits::debits_sound;
-use frames::{Kind, print_bytes, print_line_feed, print_marks, print_number, read_kind, read_part};
+use frames::{print_bytes, print_line_feed, print_marks, print_number, read_part, run_cases};
 use judging::{Judging, Sums, Tally, sums_of};
 use lines::field;
 use std::io;
@@ -25,8 +25,8 @@ fn print_word(to: &mut impl Write, word: u64) -> io::Result<()> {
 }
 
 fn print_words(to: &mut impl Write, words: &[u64]) -> io::Result<()> {
-    for word in words {
-        print_word(to, *word)?;
+    for &word in words {
+        print_word(to, word)?;
     }
     Ok(())
 }
@@ -98,10 +98,7 @@ fn run_sound(
 ) -> io::Result<bool>
     requires { book_sound width book.now ≡ true }
 {
-    if name.len() != 35 {
-        return Ok(false);
-    }
-    if !debits_sound(debits, marks) {
+    if name.len() != 35 || !debits_sound(debits, marks) {
         return Ok(false);
     }
     let Ok(whole) = acceptance_of(name, &name[0..0], tif) else {
@@ -132,10 +129,7 @@ fn run_file(
     tif: &[u8],
 ) -> io::Result<bool> {
     let mut words = [0u64; MOST];
-    if !check_book(book) {
-        return Ok(false);
-    }
-    run_sound(to, name, book, debits, marks, tif, &mut words)
+    Ok(check_book(book) && run_sound(to, name, book, debits, marks, tif, &mut words)?)
 }
 
 // A case of a name, a book, debits, marks and a TIF; false where it breaks off or a part is too long.
@@ -145,19 +139,14 @@ fn run_parts(from: &mut impl Read, to: &mut impl Write) -> io::Result<bool> {
     let mut debits = [0u8; 12960];
     let mut marks = [0u8; MOST];
     let mut tif = [0u8; 13230];
-    let name_part = read_part(from, &mut name)?;
-    let book_part = read_part(from, &mut book)?;
-    let debits_part = read_part(from, &mut debits)?;
-    let marks_part = read_part(from, &mut marks)?;
-    let tif_part = read_part(from, &mut tif)?;
-    if !tif_part.whole {
+    // A part that is missing counts as empty here: only the last one says whether the case is whole.
+    let a = read_part(from, &mut name)?.unwrap_or(0);
+    let b = read_part(from, &mut book)?.unwrap_or(0);
+    let c = read_part(from, &mut debits)?.unwrap_or(0);
+    let d = read_part(from, &mut marks)?.unwrap_or(0);
+    let Some(e) = read_part(from, &mut tif)? else {
         return Ok(false);
-    }
-    let a = name_part.size;
-    let b = book_part.size;
-    let c = debits_part.size;
-    let d = marks_part.size;
-    let e = tif_part.size;
+    };
     run_file(
         to,
         &name[0..a],
@@ -168,24 +157,10 @@ fn run_parts(from: &mut impl Read, to: &mut impl Write) -> io::Result<bool> {
     )
 }
 
-fn run_case(from: &mut impl Read, to: &mut impl Write) -> io::Result<bool> {
-    let Kind::Of(kind) = read_kind(from)? else {
-        return Ok(false);
-    };
-    if kind != b'J' {
-        return Ok(false);
-    }
-    run_parts(from, to)
+fn run_case(from: &mut impl Read, to: &mut impl Write, kind: u8) -> io::Result<bool> {
+    Ok(kind == b'J' && run_parts(from, to)?)
 }
 
-// A proved loop has to end, and nothing says that an input does: no run uses up so many turns.
 fn main(rt: HostRuntime) -> io::Result<()> {
-    let mut from = rt.reader();
-    let mut to = io::writer(&rt);
-    for _ in 0..u64::MAX {
-        if !run_case(&mut from, &mut to)? {
-            break;
-        }
-    }
-    Ok(())
+    run_cases(&mut rt.reader(), &mut io::writer(&rt), run_case)
 }

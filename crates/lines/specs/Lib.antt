@@ -21,3 +21,4 @@ pub mod SpliceLaws
 pub mod Rows
 pub mod RowsLaws
 pub mod OverRange
+pub mod OverChunks

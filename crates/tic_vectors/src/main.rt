@@ -1,7 +1,7 @@
 // Reads, shows listed lines of, and rewrites TICs from standard input, and prints one line for each case.
 #![tactic(auto)]
 
-use frames::{Kind, print_bytes, print_line_feed, print_number, read_kind, read_part};
+use frames::{print_bytes, print_line_feed, print_number, read_part, run_cases};
 use std::io;
 use std::io::{Read, Write};
 use tic::{
@@ -67,16 +67,11 @@ fn print_listed(to: &mut impl Write, tic: &[u8], k: usize) -> io::Result<()> {
 
 // The length written, where the bytes written are those that were read.
 fn print_written(to: &mut impl Write, tic: &[u8], out: &[u8], n: usize) -> io::Result<()> {
-    if n != tic.len() {
-        return print_bytes(to, b"DIFFERS");
+    if out.get(0..n) == Some(tic) {
+        print_number(to, n as u64)
+    } else {
+        print_bytes(to, b"DIFFERS")
     }
-    if n > out.len() {
-        return print_bytes(to, b"DIFFERS");
-    }
-    if !lines::is_same(&out[0..n], tic) {
-        return print_bytes(to, b"DIFFERS");
-    }
-    print_number(to, n as u64)
 }
 
 fn print_rewritten(to: &mut impl Write, tic: &[u8], out: &mut [u8]) -> io::Result<()> {
@@ -89,42 +84,28 @@ fn print_rewritten(to: &mut impl Write, tic: &[u8], out: &mut [u8]) -> io::Resul
 
 fn run_read(from: &mut impl Read, to: &mut impl Write) -> io::Result<bool> {
     let mut tic = [0u8; LONGEST];
-    let part = read_part(from, &mut tic)?;
-    if !part.whole {
+    let Some(size) = read_part(from, &mut tic)? else {
         return Ok(false);
-    }
-    let size = part.size;
+    };
     print_reading(to, &tic[0..size])?;
     Ok(true)
 }
 
-// What stands in a part of four bytes.
-#[derive(Clone, Copy)]
-enum Number {
-    Is(usize),
-    Missing,
-}
-
-fn read_number(from: &mut impl Read) -> io::Result<Number> {
+// The number that stands in a part of four bytes.
+fn read_number(from: &mut impl Read) -> io::Result<Option<usize>> {
     let mut four = [0u8; 4];
-    let part = read_part(from, &mut four)?;
-    if !part.whole {
-        return Ok(Number::Missing);
+    if read_part(from, &mut four)? != Some(4) {
+        return Ok(None);
     }
-    if part.size != 4 {
-        return Ok(Number::Missing);
-    }
-    Ok(Number::Is(lines::big_endian(&four)))
+    Ok(Some(lines::big_endian(&four)))
 }
 
 fn run_listed(from: &mut impl Read, to: &mut impl Write) -> io::Result<bool> {
     let mut tic = [0u8; LONGEST];
-    let part = read_part(from, &mut tic)?;
-    if !part.whole {
+    let Some(size) = read_part(from, &mut tic)? else {
         return Ok(false);
-    }
-    let size = part.size;
-    let Number::Is(k) = read_number(from)? else {
+    };
+    let Some(k) = read_number(from)? else {
         return Ok(false);
     };
     print_listed(to, &tic[0..size], k)?;
@@ -134,12 +115,10 @@ fn run_listed(from: &mut impl Read, to: &mut impl Write) -> io::Result<bool> {
 fn run_rewritten(from: &mut impl Read, to: &mut impl Write) -> io::Result<bool> {
     let mut tic = [0u8; LONGEST];
     let mut out = [0u8; LONGEST];
-    let part = read_part(from, &mut tic)?;
-    if !part.whole {
+    let Some(size) = read_part(from, &mut tic)? else {
         return Ok(false);
-    }
-    let size = part.size;
-    let Number::Is(room) = read_number(from)? else {
+    };
+    let Some(room) = read_number(from)? else {
         return Ok(false);
     };
     if room > LONGEST {
@@ -149,34 +128,19 @@ fn run_rewritten(from: &mut impl Read, to: &mut impl Write) -> io::Result<bool> 
     Ok(true)
 }
 
-fn run_kind(from: &mut impl Read, to: &mut impl Write, kind: u8) -> io::Result<bool> {
-    match kind {
-        b'R' => run_read(from, to),
-        b'L' => run_listed(from, to),
-        b'W' => run_rewritten(from, to),
-        _ => Ok(false),
-    }
-}
-
-fn run_case(from: &mut impl Read, to: &mut impl Write) -> io::Result<bool> {
-    let Kind::Of(kind) = read_kind(from)? else {
-        return Ok(false);
+fn run_case(from: &mut impl Read, to: &mut impl Write, kind: u8) -> io::Result<bool> {
+    let whole = match kind {
+        b'R' => run_read(from, to)?,
+        b'L' => run_listed(from, to)?,
+        b'W' => run_rewritten(from, to)?,
+        _ => false,
     };
-    if !run_kind(from, to, kind)? {
-        return Ok(false);
+    if whole {
+        print_line_feed(to)?;
     }
-    print_line_feed(to)?;
-    Ok(true)
+    Ok(whole)
 }
 
-// A proved loop has to end, and nothing says that an input does: no run uses up so many turns.
 fn main(rt: HostRuntime) -> io::Result<()> {
-    let mut from = rt.reader();
-    let mut to = io::writer(&rt);
-    for _ in 0..u64::MAX {
-        if !run_case(&mut from, &mut to)? {
-            break;
-        }
-    }
-    Ok(())
+    run_cases(&mut rt.reader(), &mut io::writer(&rt), run_case)
 }

@@ -1,7 +1,7 @@
 // Runs name, received names and acceptance over cases from standard input, and prints one line for each.
 #![tactic(auto)]
 
-use frames::{Kind, print_bytes, print_line_feed, print_number, read_kind, read_part};
+use frames::{print_bytes, print_line_feed, print_number, read_part, run_cases};
 use std::io;
 use std::io::{Read, Write};
 use tif::{FileFault, Whole, acceptance_of, is_name, names_whole, side_of};
@@ -44,47 +44,27 @@ fn run_file(from: &mut impl Read, to: &mut impl Write) -> io::Result<bool> {
     let mut name = [0u8; 128];
     let mut names = [0u8; 1024];
     let mut tif = [0u8; 8192];
-    let name_part = read_part(from, &mut name)?;
-    if !name_part.whole {
+    let Some(a) = read_part(from, &mut name)? else {
         return Ok(false);
-    }
-    let a = name_part.size;
-    let names_part = read_part(from, &mut names)?;
-    if !names_part.whole {
+    };
+    let Some(b) = read_part(from, &mut names)? else {
         return Ok(false);
-    }
-    let b = names_part.size;
-    let tif_part = read_part(from, &mut tif)?;
-    if !tif_part.whole {
+    };
+    let Some(c) = read_part(from, &mut tif)? else {
         return Ok(false);
-    }
-    let c = tif_part.size;
+    };
     print_answer(to, &name[0..a], &names[0..b], &tif[0..c])?;
     Ok(true)
 }
 
-fn run_case(from: &mut impl Read, to: &mut impl Write) -> io::Result<bool> {
-    let Kind::Of(kind) = read_kind(from)? else {
-        return Ok(false);
-    };
-    if kind != b'A' {
-        return Ok(false);
+fn run_case(from: &mut impl Read, to: &mut impl Write, kind: u8) -> io::Result<bool> {
+    let whole = kind == b'A' && run_file(from, to)?;
+    if whole {
+        print_line_feed(to)?;
     }
-    if !run_file(from, to)? {
-        return Ok(false);
-    }
-    print_line_feed(to)?;
-    Ok(true)
+    Ok(whole)
 }
 
-// A proved loop has to end, and nothing says that an input does: no run uses up so many turns.
 fn main(rt: HostRuntime) -> io::Result<()> {
-    let mut from = rt.reader();
-    let mut to = io::writer(&rt);
-    for _ in 0..u64::MAX {
-        if !run_case(&mut from, &mut to)? {
-            break;
-        }
-    }
-    Ok(())
+    run_cases(&mut rt.reader(), &mut io::writer(&rt), run_case)
 }
