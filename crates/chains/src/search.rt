@@ -66,18 +66,12 @@ pub fn is_repeated(rows: Rows, index: &Index, k: usize) -> bool
     walk(rows, index, usize::from(index.links[k]), sought).is_some()
 }
 
-#[tactic(auto, using(lines::specs::BelowLaws::all_zero, lines::specs::BelowLaws::all_more, lines::specs::BelowLaws::all_fails), unfolding(crate::specs::Index::all_different, crate::specs::Index::fresh_at))]
 fn none_repeated(rows: Rows, index: &Index) -> bool
     requires ruled { AreRuled rows }
     requires linked { AreLinked rows index.now }
     ensures { result ≡ all_different rows.entry.layout rows.entry.file.now rows.entry.spans.now rows.entry.count }
 {
-    for k in 0..rows.count {
-        if is_repeated(rows, index, k) {
-            return false;
-        }
-    }
-    true
+    (0..rows.count).all(|k| !is_repeated(rows, index, k))
 }
 
 // Whether no two of the rows agree.

@@ -17,9 +17,7 @@ pub fn fill(records: &mut [Record], tif: &[u8], words: &[u64], n: usize)
     requires { (n ≤ length records.old) × ((k : ℕ) → k < n → LineKnown tif.now words.now k) }
     ensures { records.new ≡ records_to tif.now words.now n ++ drop n records.old }
 {
-    let mut i = 0;
-    while i < n {
-        records[i] = record_at(tif, words, i);
-        i += 1;
+    for k in 0..n {
+        records[k] = record_at(tif, words, k);
     }
 }
