@@ -8,13 +8,14 @@ pub const PERIOD: usize = 40;
 
 const AGREEMENTS: Columns = Columns { from: 1, to: 2 };
 
-const ENTRIES: Layout = Layout {
+// The entries, one for each agreement.
+pub const ENTRIES: Layout = Layout {
     header: 2,
     line: 23,
     footer: 0,
 };
 
-const PAN: Columns = Columns { from: 1, to: 19 };
+pub const PAN: Columns = Columns { from: 1, to: 19 };
 
 const OFFSET: Columns = Columns { from: 20, to: 23 };
 

@@ -5,13 +5,13 @@ ghost use Rattle.chains.specs.Chain.{Walk};
 
 use crate::hash::hash_line;
 use crate::indexing::{Index, Rows, index_lines};
-use lines::{agree_across, line_of};
+use lines::{Columns, agree_across, line_of};
 
 // What is looked for among the rows: a line, and the spans of it that are compared with theirs.
 #[derive(Clone, Copy)]
 pub struct Sought<'a> {
     pub line: &'a [u8],
-    pub spans: &'a [usize],
+    pub spans: &'a [Columns],
 }
 
 // The last line below `start` that agrees with the sought one, counted from 0. Only lines of the chain from `start` are looked at.
@@ -66,18 +66,12 @@ pub fn is_repeated(rows: Rows, index: &Index, k: usize) -> bool
     walk(rows, index, usize::from(index.links[k]), sought).is_some()
 }
 
-#[tactic(auto, using(lines::specs::BelowLaws::all_zero, lines::specs::BelowLaws::all_more, lines::specs::BelowLaws::all_fails), unfolding(crate::specs::Index::all_different, crate::specs::Index::fresh_at))]
 fn none_repeated(rows: Rows, index: &Index) -> bool
     requires ruled { AreRuled rows }
     requires linked { AreLinked rows index.now }
     ensures { result ≡ all_different rows.entry.layout rows.entry.file.now rows.entry.spans.now rows.entry.count }
 {
-    for k in 0..rows.count {
-        if is_repeated(rows, index, k) {
-            return false;
-        }
-    }
-    true
+    (0..rows.count).all(|k| !is_repeated(rows, index, k))
 }
 
 // Whether no two of the rows agree.

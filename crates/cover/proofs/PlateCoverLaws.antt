@@ -1,5 +1,5 @@
 -- Numbers of periods: the first number that covers is the first place in book order that covers. Assumes nothing.
-use Rattle.std.specs.Prelude.{◌≡◌, Bool, not, List, ℕ, ◌+◌, ◌*◌, ◌/◌, ◌%◌, ◌≤◌, ◌<◌, Some, None}
+use Rattle.std.specs.Prelude.{◌≡◌, Bool, not, List, ℕ, ◌+◌, ◌*◌, ◌/◌, ◌%◌, ◌≤◌, ◌<◌, Option, Some, None}
 use Rattle.std.proofs.Math.Path.{refl, sym, ap}
 use Rattle.std.proofs.Common.{◌∙◌}
 use Rattle.std.proofs.Math.Bool.{true, false, cond}
@@ -13,7 +13,10 @@ use Rattle.lines.specs.Class.{all_of}
 use Rattle.lines.specs.declared.class.Class.TheVariants.{Only}
 use Rattle.book.specs.Layout.{agreements, periods_at, body_place, width}
 use Rattle.book.specs.Form.{Whole}
-use Rattle.cover.specs.Cover.{Asked, asked, covers_at, covering_period, has_cover, agreement_of, cover_in, cover_of, place_at}
+use Rattle.cover.specs.Cover.{Asked, asked, covers_at, covering_period, has_cover, pan_is, agreement_of, cover_in, cover_of, place_at}
+use Rattle.cover.specs.FoundLaws.{cover_past}
+use Rattle.cover.specs.declared.cover.Place.{Place}
+use Rattle.lines.specs.Found.{found_below, found_is, found_not}
 use Rattle.cover.specs.CoverLaws.{by_pan, by_plate}
 use Rattle.cover.specs.Plates.{numbers_of, body_for, numbered, period_for, covers_number, place_for}
 use Rattle.cover.specs.PlatesLaws.{split, numbered_is}
@@ -103,3 +106,36 @@ module _ (book pan moment plate nation : List ℕ) where
   cover_plate e x w f =
       plate_covers book (asked false moment plate nation) w x f
       ∙ rw e (ap (cover_in width book (asked false moment plate nation)) (sym (by_plate width book pan (asked false moment plate nation) refl)))
+
+-- ---- what is found says what covers
+module _ (book pan moment plate nation : List ℕ) where
+  -- by a PAN: the period that covers of its agreement
+  pub named_some : (i : ℕ) → all_of (Only 32) pan ≡ false → Some i ≡ found_below (agreements book) (pan_is book pan) → cover_in width book (asked true moment plate nation) i ≡ cover_of width book pan moment plate nation
+  unfolding agreement_of
+  named_some i e f = ap (cover_in width book (asked true moment plate nation)) (found_is (agreements book) (pan_is book pan) i f).0 ∙ cover_named book pan moment plate nation (ap not e)
+
+  pub named_none : all_of (Only 32) pan ≡ false → ◌≡◌ {A = Option ℕ} None (found_below (agreements book) (pan_is book pan)) → ◌≡◌ {A = Option Place} None (cover_of width book pan moment plate nation)
+  unfolding agreement_of
+  named_none e f =
+      let z = found_not (agreements book) (pan_is book pan) f in
+      cover_past width book (asked true moment plate nation) (agreement_of book pan) (omega arith) ∙ cover_named book pan moment plate nation (ap not e)
+
+  -- by a blank one: the first in book order
+  pub blank_first : all_of (Only 32) pan ≡ true
+      → cover_in width book (asked false moment plate nation) (first_below (agreements book) (has_cover width book (asked false moment plate nation))) ≡ cover_of width book pan moment plate nation
+  unfolding cover_of
+  blank_first e = rw e (ap (cover_in width book (asked false moment plate nation)) (sym (by_plate width book pan (asked false moment plate nation) refl)))
+
+  pub blank_some : (x : ℕ) → Whole width book → all_of (Only 32) pan ≡ true → Some x ≡ found_below (numbers_of book) (covers_number book (asked false moment plate nation))
+      → Some (place_at (x / 64) (x % 64)) ≡ cover_of width book pan moment plate nation
+  unfolding place_for
+  blank_some x w e f =
+      let g = found_is (numbers_of book) (covers_number book (asked false moment plate nation)) x f in
+      rw (lt-ltb x (numbers_of book) g.1) at (cover_plate book pan moment plate nation (ap not e) x w g.0)
+
+  pub blank_none : Whole width book → all_of (Only 32) pan ≡ true → ◌≡◌ {A = Option ℕ} None (found_below (numbers_of book) (covers_number book (asked false moment plate nation)))
+      → ◌≡◌ {A = Option Place} None (cover_of width book pan moment plate nation)
+  unfolding place_for
+  blank_none w e f =
+      let n = numbers_of book in
+      rw (le-ltb n n (omega arith)) at (cover_plate book pan moment plate nation (ap not e) n w (found_not n (covers_number book (asked false moment plate nation)) f))

@@ -3,6 +3,7 @@ use Rattle.std.specs.Prelude.{◌≡◌, refl, Bool, false, List, ℕ, zero, suc
 use Rattle.std.proofs.Math.Path.{sym, ap}
 use Rattle.std.proofs.Common.{◌∙◌, subst, not-suc-le-zero, eq-or-lt_of_le, add-one, arith}
 use Rattle.std.proofs.Math.Logic.{⊎_elim}
+use Rattle.std.proofs.lemmas.Bool.{false≢true}
 use Rattle.std.proofs.Math.Bool.{true, not, cond}
 use borrow.Author.Tests.{not-true, not-false}
 use Rattle.lines.specs.Below.{some_below, first_below}
@@ -64,6 +65,14 @@ module _ (w : ℕ) (book pan : List ℕ) (n : Named w book pan) where
       let f : before (pan_of book j) pan ≡ true = not-false (before (pan_of book j) pan) e in
       ap not (before_trans (pan_of book i) (pan_of book j) pan (pan_full w book whole i (omega arith) ∙ sym (pan_full w book whole j k)) (pans_rise w book whole j i l k) f))
       (eq-or-lt_of_le h)
+
+  -- and what is reached at i is reached from there on
+  pub stays_reached : (j i : ℕ) → i ≤ j → j < agreements book → reached_at book pan i ≡ true → reached_at book pan j ≡ true
+  stays_reached j i h k e = go (reached_at book pan j) refl
+    where
+      go : (t : Bool) → reached_at book pan j ≡ t → t ≡ true
+      go true f = refl
+      go false f = absurd (false≢true (sym (not_reached j i h k f) ∙ e))
 
   -- two agreements do not share a PAN
   pub pan_once : (i j : ℕ) → i < j → j < agreements book → pan_is book pan i ≡ true → pan_is book pan j ≡ false

@@ -15,3 +15,5 @@ pub mod PansLaws
 pub mod Plates
 pub mod PlatesLaws
 pub mod PlateChainLaws
+pub mod Detected
+pub mod FoundLaws

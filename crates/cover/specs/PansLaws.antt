@@ -1,11 +1,11 @@
 -- What the index of PANs finds: the last entry that has a PAN, which is the only one. Assumes nothing.
 use Rattle.std.specs.Prelude.{◌≡◌, refl, true, List, ℕ, zero, suc, ◌-◌, ◌≤◌, ◌<◌, length, ltb}
-use Rattle.std.specs.Option.{unwrap_or}
 use Rattle.std.proofs.Math.Path.{sym, ap}
 use Rattle.std.proofs.Common.{◌∙◌, arith, take_all}
 use Rattle.std.proofs.Math.Bool.{not}
 use Rattle.lines.specs.Below.{all_below}
 use Rattle.lines.specs.BelowLaws.{some_each, first_hit, first_none}
+use Rattle.lines.specs.Found.{found_below, found_first, found_past}
 use Rattle.lines.specs.Spans.{span_in, spans_in, span_agrees, agree_across}
 use Rattle.chains.specs.Last.{last_below, place_of, last_place}
 use Rattle.chains.specs.LastLaws.{last_le, last_is, last_some}
@@ -59,14 +59,16 @@ module _ (w : ℕ) (book pan : List ℕ) (n : Named w book pan) where
         (some_each (pan_is book pan) (last - 1) (λ i l. unless (pan_is book pan i) (not (pan_is book pan (last - 1))) (λ t. ap not (pan_once w book pan n i (last - 1) l within t)) (ap not here)))
         here)
 
-    -- counted from 0, or the number of agreements where there is none
-    pub agreement_at : unwrap_or (place_of last) (agreements book) ≡ agreement_of book pan
-    unfolding place_of
+    -- counted from 0
+    pub agreement_at : place_of last ≡ found_below (agreements book) (pan_is book pan)
+    unfolding place_of agreement_of
     agreement_at = go last refl
       where
-        go : (k : ℕ) → last ≡ k → unwrap_or (place_of k) (agreements book) ≡ agreement_of book pan
-        go zero z = no_agreement z
-        go (suc k) z = let s : k ≡ last - 1 = omega arith in s ∙ last_agreement (omega arith)
+        go : (k : ℕ) → last ≡ k → place_of k ≡ found_below (agreements book) (pan_is book pan)
+        go zero z = found_past (agreements book) (pan_is book pan) (no_agreement z)
+        go (suc k) z =
+            let s : k ≡ last - 1 = omega arith in
+            found_first (agreements book) (pan_is book pan) k (omega (arith, is_last, last_le (pan_is book pan) (agreements book))) (s ∙ last_agreement (omega arith))
 
-  pub agreement_found : unwrap_or (last_place (agreements book) (agrees_with entry_layout book pan_span pan_span pan)) (agreements book) ≡ agreement_of book pan
-  agreement_found = agreement_at (last_below (agreements book) (agrees_with entry_layout book pan_span pan_span pan)) refl
+  pub pan_found : last_place (agreements book) (agrees_with entry_layout book pan_span pan_span pan) ≡ found_below (agreements book) (pan_is book pan)
+  pan_found = agreement_at (last_below (agreements book) (agrees_with entry_layout book pan_span pan_span pan)) refl

@@ -8,6 +8,7 @@ use native.Mathlib.Omega.{arith}
 use borrow.Author.Tests.{ltb-true, ltb-false}
 use Rattle.std.proofs.Math.Dec.{ltb}
 use Rattle.lines.specs.Below.{first_below}
+use Rattle.lines.specs.BelowLaws.{first_le}
 use Rattle.lines.specs.BoolLaws.{and_left, and_right}
 use Rattle.lines.specs.Same.{same}
 use Rattle.lines.specs.SameLaws.{same_is}
@@ -132,6 +133,10 @@ module _ (book links moment plate nation : List ℕ) (c : PlatesIndexed book lin
 
     pub to_none : numbers_of book ≤ x → x ≡ first_below (numbers_of book) (covers_number book sought)
     to_none l = sym (way_none (numbers_of book) (plate_hash book) (numbered book) link c.chained (covers_number book sought) hash only t.at x t.way t.here l)
+
+    -- so there is none
+    pub to_past : numbers_of book ≤ x → numbers_of book ≡ first_below (numbers_of book) (covers_number book sought)
+    to_past l = omega (arith, to_none l, first_le (covers_number book sought) (numbers_of book))
 
     pub to_more : x < numbers_of book → covers_number book sought x ≡ false → (y : ℕ) → y ≡ get_or links (4096 + slot_of book x) 0 → WayTo book links sought hash y × (x < y)
     to_more l e y f =

@@ -2,6 +2,7 @@
 #![tactic(auto)]
 
 mod cover;
+mod halving;
 mod pans;
 mod plates;
 mod rising;

@@ -1,22 +1,16 @@
 ghost use Rattle.std.specs.Prelude.{◌≡◌, ◌≤◌, true, length};
 ghost use Rattle.book.specs.Layout.{width, agreements, entry_layout};
 ghost use Rattle.book.specs.Form.{book_sound};
-ghost use Rattle.cover.specs.Cover.{agreement_of, Named};
+ghost use Rattle.lines.specs.Found.{found_below};
+ghost use Rattle.cover.specs.Cover.{pan_is, Named};
 ghost use Rattle.cover.specs.Pans.{pan_span, PansIndexed};
 
-use book::agreements_of;
+use book::{ENTRIES, PAN, agreements_of};
 use chains::{Index, Rows, Sought, index_lines, last_agreeing};
-use lines::Layout;
-
-// The entries of a book.
-const ENTRIES: Layout = Layout {
-    header: 2,
-    line: 23,
-    footer: 0,
-};
+use lines::Columns;
 
 // The PAN of an entry, and all of a PAN that is asked for.
-const PAN: [usize; 2] = [1, 19];
+const PAN_SPAN: [Columns; 1] = [PAN];
 
 // The entries of a book, by their PANs.
 fn entries(book: &[u8]) -> Rows<'_>
@@ -26,7 +20,7 @@ fn entries(book: &[u8]) -> Rows<'_>
     Rows {
         layout: ENTRIES,
         file: book,
-        spans: &PAN,
+        spans: &PAN_SPAN,
         count: agreements_of(book),
     }
 }
@@ -40,16 +34,15 @@ pub fn index_pans(book: &[u8], index: &mut Index)
     index_lines(entries(book), index);
 }
 
-// The agreement of a PAN: no two share one, so the last that has it is the first. The number of agreements where there is none.
-#[tactic(auto, using(crate::specs::PansLaws::sound_ruled, crate::specs::PansLaws::sound_enough, crate::specs::PansLaws::pan_asked, crate::specs::PansLaws::agreement_found))]
-pub fn agreement_with(book: &[u8], index: &Index, pan: &[u8]) -> usize
+// The agreement of a PAN: no two share one, so the last that has it is the first.
+#[tactic(auto, using(crate::specs::PansLaws::sound_ruled, crate::specs::PansLaws::sound_enough, crate::specs::PansLaws::pan_asked, crate::specs::PansLaws::pan_found))]
+pub fn agreement_with(book: &[u8], index: &Index, pan: &[u8]) -> Option<usize>
     requires { Named width book.now pan.now × PansIndexed book.now index.now }
-    ensures { result ≡ agreement_of book.now pan.now }
+    ensures { result ≡ found_below (agreements book.now) (pan_is book.now pan.now) }
 {
-    let rows = entries(book);
     let sought = Sought {
         line: pan,
-        spans: &PAN,
+        spans: &PAN_SPAN,
     };
-    last_agreeing(rows, index, sought).unwrap_or(rows.count)
+    last_agreeing(entries(book), index, sought)
 }

@@ -1,15 +1,16 @@
-ghost use Rattle.std.specs.Prelude.{◌≡◌, true, false, ◌+◌, ◌*◌, ◌≤◌, ◌<◌, length};
-ghost use Rattle.lines.specs.Below.{first_below};
+ghost use Rattle.std.specs.Prelude.{◌≡◌, true, ◌+◌, ◌*◌, ◌/◌, ◌%◌, ◌≤◌, ◌<◌, length};
+ghost use Rattle.lines.specs.Found.{found_below};
 ghost use Rattle.book.specs.Layout.{agreements, period_end, width};
 ghost use Rattle.book.specs.Form.{book_sound, most_bytes};
-ghost use Rattle.cover.specs.Cover.{asked, period_covers, cover_of, Ready};
+ghost use Rattle.cover.specs.Cover.{period_covers, place_at, cover_of, Ready};
+ghost use Rattle.cover.specs.Detected.{asked_by};
 ghost use Rattle.cover.specs.Pans.{PansIndexed};
-ghost use Rattle.cover.specs.Plates.{plate_links, numbers_of, slot_at, covers_number, place_for, PeriodAt, PlatesFrom, PlatesIndexed};
+ghost use Rattle.cover.specs.Plates.{plate_links, numbers_of, slot_at, covers_number, PeriodAt, PlatesFrom, PlatesIndexed};
 
-use crate::cover::{Place, body_place, in_time, is_leased};
+use crate::cover::{Detected, Place, body_place, in_time, is_leased};
 use crate::pans::agreement_with;
 use crate::rising::cover_in_time;
-use book::{NATION, PLATE, agreements_of, period_of, periods_at};
+use book::{NATION, PERIOD, PLATE, agreements_of, period_of, periods_at};
 use chains::{HASHES, Index, clear_ahead, enter_ahead, hash_two};
 use lines::{Class, all_of, field};
 
@@ -23,7 +24,7 @@ fn slot_at(at: usize, j: usize) -> usize
     requires { period_end width at j ≤ most_bytes }
     ensures { (result ≡ slot_at at j) × (result < 26214) }
 {
-    (at + 14 + j * 40) / 40
+    (at + 14 + j * PERIOD) / PERIOD
 }
 
 // Puts period j of agreement i, whose body stands at `at`, in front of its chain.
@@ -43,9 +44,7 @@ fn enter_body(book: &[u8], i: usize, links: &mut [u16])
     ensures { PlatesFrom book.now (64 * i) links.new }
 {
     let at = body_place(book, i);
-    let mut j = periods_at(book, at);
-    while j > 0 {
-        j -= 1;
+    for j in (0..periods_at(book, at)).rev() {
         enter_period(book, i, at, j, links);
     }
 }
@@ -57,53 +56,46 @@ pub fn index_plates(book: &[u8], links: &mut [u16])
 {
     let n = agreements_of(book);
     clear_ahead(links, 64 * n);
-    let mut i = n;
-    while i > 0 {
-        i -= 1;
+    for i in (0..n).rev() {
         enter_body(book, i, links);
     }
 }
 
 // Whether the period covers by its plate and nation. Most periods of a chain have these, so the time is compared first.
-fn plate_covers(period: &[u8], moment: &[u8], plate: &[u8], nation: &[u8]) -> bool
-    requires { (length period.now ≡ width) × (length moment.now ≡ 14) }
-    ensures { result ≡ period_covers (asked false moment.now plate.now nation.now) period.now }
+#[tactic(auto, using(lines::specs::BoolLaws::and_false_right, lines::specs::BoolLaws::and_one), unfolding(crate::specs::Cover::period_covers))]
+fn plate_covers(period: &[u8], detected: Detected) -> bool
+    requires { (length period.now ≡ width) × (length detected.moment.now ≡ 14) }
+    ensures { result ≡ period_covers (asked_by detected.entry) period.now }
 {
-    if !in_time(period, moment) {
-        return false;
-    }
-    is_leased(period, plate, nation)
+    in_time(period, detected.moment) && is_leased(period, detected.plate, detected.nation)
 }
 
-// The number of the first period in book order with this plate and nation that covers, and one past the last number where there is none.
-fn first_leased(book: &[u8], links: &[u16], moment: &[u8], plate: &[u8], nation: &[u8]) -> usize
-    requires { Ready width book.now moment.now × PlatesIndexed book.now links.now }
-    ensures { result ≡ first_below (numbers_of book.now) (covers_number book.now (asked false moment.now plate.now nation.now)) }
+// The number of the first period in book order with this plate and nation that covers.
+fn first_leased(book: &[u8], links: &[u16], detected: Detected) -> Option<usize>
+    requires { Ready width book.now detected.moment.now × PlatesIndexed book.now links.now }
+    ensures { result ≡ found_below (numbers_of book.now) (covers_number book.now (asked_by detected.entry)) }
 {
     let n = 64 * agreements_of(book);
-    let mut x = usize::from(links[hash_two(plate, nation)]);
+    let mut x = usize::from(links[hash_two(detected.plate, detected.nation)]);
     while x < n {
         let at = body_place(book, x / 64);
-        if plate_covers(period_of(book, at, x % 64), moment, plate, nation) {
-            return x;
+        if plate_covers(period_of(book, at, x % 64), detected) {
+            return Some(x);
         }
         x = usize::from(links[HASHES + slot_at(at, x % 64)]);
     }
-    x
+    None
 }
 
-// The place of the period of number x, and none for a number past the last.
-fn place_for(book: &[u8], x: usize) -> Option<Place>
-    requires { book_sound width book.now ≡ true }
-    ensures { result ≡ place_for book.now x }
+// The place of the period of number x.
+fn place_of(x: usize) -> Place
+    requires { x < 64000 }
+    ensures { result ≡ place_at (x / 64) (x % 64) }
 {
-    if x >= 64 * agreements_of(book) {
-        return None;
-    }
-    Some(Place {
+    Place {
         agreement: x / 64 + 1,
         period: x % 64 + 1,
-    })
+    }
 }
 
 // What covers a passage with this PAN, exit moment, detected plate and nation: the first period in book order. The PANs are indexed by `index_pans`, the links made by `index_plates`.
@@ -120,8 +112,14 @@ pub fn cover_by(
     requires pans_indexed { PansIndexed book.now pans.now }
     ensures { result ≡ cover_of width book.now pan.now moment.now plate.now nation.now }
 {
-    if !all_of(Class::Only(32), pan) {
-        return cover_in_time(book, agreement_with(book, pans, pan), moment);
+    if all_of(Class::Only(b' '), pan) {
+        let detected = Detected {
+            moment,
+            plate,
+            nation,
+        };
+        let x = first_leased(book, links, detected)?;
+        return Some(place_of(x));
     }
-    place_for(book, first_leased(book, links, moment, plate, nation))
+    cover_in_time(book, agreement_with(book, pans, pan)?, moment)
 }

@@ -11,6 +11,7 @@ use Rattle.std.proofs.Math.Dec.{ltb}
 use borrow.Author.Tests.{lt-ltb, le-ltb, ltb-true, ltb-false}
 use Rattle.lines.specs.BelowLaws.{first_found, first_is, some_none}
 use Rattle.lines.specs.Below.{some_below}
+use Rattle.lines.specs.Found.{found_below, found_is, found_not}
 use Rattle.debits.specs.Taking.{free_for, place_taken, taken, took_debit, marks_then, Took}
 
 module _ (debits marks credit : List ℕ) where
@@ -66,6 +67,20 @@ module _ (debits marks credit : List ℕ) where
       go true e s f t = absurd (true≢false t)
       go false e true f t = absurd (omega (arith, ltb-false place (length marks) e, (first_is free (length marks) f).0))
       go false e false f t = (refl, some_none free (length marks) f)
+
+  -- what is taken is the first free debit that is found, by its number
+  pub free_within : (j : ℕ) → found_below (length marks) free ≡ Some j → j < length marks
+  free_within j e = (found_is (length marks) free j (sym e)).1
+
+  pub free_taken : (j : ℕ) → found_below (length marks) free ≡ Some j → answer ≡ Some (j + 1)
+  unfolding place_taken
+  free_taken j e =
+      let f = found_is (length marks) free j (sym e) in
+      taken_some (omega (arith, f.0, f.1)) ∙ ap (λ (k : ℕ). Some (k + 1)) (sym f.0)
+
+  pub free_none : found_below (length marks) free ≡ None → answer ≡ None
+  unfolding place_taken
+  free_none e = let p = found_not (length marks) free (sym e) in taken_none (omega (arith, p))
 
   -- an answer with a number: it is one more than the place, and not above the number of marks
   pub taken_number : (m : ℕ) → answer ≡ Some m → (m ≡ place + 1) × (m ≤ length marks)

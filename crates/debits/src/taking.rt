@@ -1,5 +1,6 @@
-ghost use Rattle.std.specs.Prelude.{◌≡◌, ◌<◌, length, MatchOption};
-ghost use Rattle.debits.specs.Taking.{Lent, free_for, place_taken, Took};
+ghost use Rattle.std.specs.Prelude.{◌≡◌, ◌<◌, length};
+ghost use Rattle.lines.specs.Found.{found_below};
+ghost use Rattle.debits.specs.Taking.{Lent, free_for, Took};
 
 use crate::form::DEBITS;
 use lines::{agree_on, line_of};
@@ -15,21 +16,15 @@ pub fn free_for(debits: &[u8], marks: &[u8], credit: &[u8], j: usize) -> bool
 }
 
 // The place of the first unmarked debit that agrees with the credit, counted from 0.
-#[tactic(auto, using(lines::specs::BelowLaws::some_zero, lines::specs::BelowLaws::some_more, lines::specs::BelowLaws::first_hit, lines::specs::BelowLaws::first_none), unfolding(crate::specs::Taking::place_taken))]
 fn first_free(debits: &[u8], marks: &[u8], credit: &[u8]) -> Option<usize>
     requires { Lent debits.now marks.now credit.now }
-    ensures { MatchOption result (place_taken debits.now marks.now credit.now ≡ length marks.now) (λ j. (place_taken debits.now marks.now credit.now ≡ j) × (j < length marks.now)) }
+    ensures { result ≡ found_below (length marks.now) (free_for debits.now marks.now credit.now) }
 {
-    for j in 0..marks.len() {
-        if free_for(debits, marks, credit, j) {
-            return Some(j);
-        }
-    }
-    None
+    (0..marks.len()).find(|j| free_for(debits, marks, credit, *j))
 }
 
 // The credit takes the first unmarked debit that agrees with it, and that debit's mark becomes 1. The answer is that debit's number, counted from 1.
-#[tactic(auto, using(crate::specs::TakingLaws::taken_some, crate::specs::TakingLaws::taken_none))]
+#[tactic(auto, using(crate::specs::TakingLaws::free_within, crate::specs::TakingLaws::free_taken, crate::specs::TakingLaws::free_none))]
 pub fn take_debit(debits: &[u8], marks: &mut [u8], credit: &[u8]) -> Option<usize>
     requires { Lent debits.now marks.old credit.now }
     ensures { Took debits.now marks.old credit.now result marks.new }

@@ -20,4 +20,6 @@ pub mod Splice
 pub mod SpliceLaws
 pub mod Rows
 pub mod RowsLaws
+pub mod Found
 pub mod OverRange
+pub mod OverChunks

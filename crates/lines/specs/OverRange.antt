@@ -1,6 +1,6 @@
 -- What `all`, `any` and `find` over the numbers 0 to n - 1 answer, where the closure computes a test. Assumes nothing.
-use Rattle.std.specs.Prelude.{◌≡◌, refl, Bool, true, false, cond, ℕ, ◌≤◌, ◌<◌, List, length, get_or, Option, Some, None, MatchOption}
-use Rattle.std.proofs.Common.{sym, ap, subst, arith}
+use Rattle.std.specs.Prelude.{◌≡◌, refl, Bool, true, false, ℕ, ◌≤◌, ◌<◌, List, length, get_or, Option, Some, None, MatchOption}
+use Rattle.std.proofs.Common.{sym, subst, arith}
 use Rattle.std.proofs.iter.Yields.{nat_range_steps}
 use Rattle.std.proofs.lemmas.Iterator.{YieldsList-from_range, cases_from_all, cases_from_any, first_from_Range}
 use Rattle.std.proofs.lemmas.List.FromFn.{length-range_with_len, get_or-range_with_len}
@@ -11,12 +11,9 @@ use Rattle.std.specs.List.{range_with_len, FoldsTo, AllWithin, HoldsAt}
 use Rattle.std.specs.declared.ops.Range.{Range}
 use denote.Param.Members.{Mut}
 use denote.Ref.{Bor}
-use Rattle.lines.specs.Below.{all_below, some_below, first_below}
-use Rattle.lines.specs.BelowLaws.{all_each, all_fails, some_each, some_hit, first_hit}
-
--- the first number below n of which p holds, if there is one
-unfoldable pub found_below : ℕ → (ℕ → Bool) → Option ℕ
-found_below n p = cond (some_below n p) (Some (first_below n p)) None
+use Rattle.lines.specs.Below.{all_below, some_below}
+use Rattle.lines.specs.Found.{found_below, found_hit, found_none}
+use Rattle.lines.specs.BelowLaws.{all_each, all_fails, some_each, some_hit}
 
 module _ (n : ℕ) (p : ℕ → Bool) where
   is_number : (P : ℕ → Type 0) (k : ℕ) → k < n → P (get_or (range_with_len 0 n) k 0) → P k
@@ -48,15 +45,6 @@ module _ (n : ℕ) (p : ℕ → Bool) where
           sym (some_hit p n h.0 l (is_number (λ x. p x ≡ true) h.0 l (h.2 0)))
       go false h = sym (some_each p n (λ i l. is_number (λ x. p x ≡ false) i l (h i 0 (omega arith) (omega (arith, length-range_with_len 0 n)))))
 
-  -- where p holds of i and of none before
-  found_hit : (i : ℕ) → i < n → p i ≡ true → ((k : ℕ) → k < i → p k ≡ false) → found_below n p ≡ Some i
-  unfolding found_below
-  found_hit i l h before = rw (some_hit p n i l h) (ap Some (first_hit p n i l (some_each p i before) h))
-
-  found_none : ((k : ℕ) → k < n → p k ≡ false) → found_below n p ≡ None
-  unfolding found_below
-  found_none each = rw (some_each p n each)
-
   pub find_over : {F : Type 0} {g : Mut F (Bor ℕ × Unit {0}) Bool} (u : Range ℕ) (f : F) (r : Option ℕ)
       → (xs : List ℕ) × (j : F) × YieldsThen nat_range_steps (record { start = 0; end = n }) xs r u × FoldsTo (λ p x q. CalledAt g p x false q) f xs j × MatchOption r ⊤ (λ x. (h : F) × CalledAt g j x true h)
       → ((x : ℕ) (b : Bool) (q : F) → CalledAt g f x b q → (q ≡ f) × (b ≡ p x)) → r ≡ found_below n p
@@ -65,5 +53,5 @@ module _ (n : ℕ) (p : ℕ → Bool) where
       (λ x q k. let e = each x true q k in sym e.1) (λ x q k. let e = each x false q k in (e.0, sym e.1)))
     where
       go : (o : Option ℕ) → MatchOption o ((k : ℕ) → 0 ≤ k → k < n → p k ≡ false) (λ i. (0 ≤ i) × (i < n) × (p i ≡ true) × ((k : ℕ) → 0 ≤ k → k < i → p k ≡ false)) → o ≡ found_below n p
-      go None h = sym (found_none (λ k l. h k (omega arith) l))
-      go (Some i) h = sym (found_hit i h.1 h.2 (λ k l. h.3 k (omega arith) l))
+      go None h = sym (found_none n p (λ k l. h k (omega arith) l))
+      go (Some i) h = sym (found_hit n p i h.1 h.2 (λ k l. h.3 k (omega arith) l))

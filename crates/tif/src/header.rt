@@ -55,7 +55,7 @@ impl Header<'_> {
             && all_of(Class::Only(b'0'), field(self.bytes, HEADER_FILLER))
     }
 
-    // The counts that a header states which is of the right form and is that of the named file.
+    // The counts that a header states which is of the right form and is that of the named file. Its digit fields are taken by `let .. else`, as the rule of the form asks.
     #[tactic(auto, unfolding(crate::specs::Header::header_of_file, crate::specs::Header::header_sound, crate::specs::Every::every, lines::specs::Number::read_digits))]
     pub fn read(self, name: &[u8]) -> Option<Counts>
         ensures { result ≡ header_of_file name.now self.entry.bytes.now }
@@ -63,9 +63,15 @@ impl Header<'_> {
         if !self.names_file(name) || !self.is_formed() {
             return None;
         }
+        let Some(records) = read_digits(field(self.bytes, RECORDS)) else {
+            return None;
+        };
+        let Some(transactions) = read_digits(field(self.bytes, TRANSACTIONS)) else {
+            return None;
+        };
         Some(Counts {
-            records: Count(read_digits(field(self.bytes, RECORDS))?),
-            transactions: Count(read_digits(field(self.bytes, TRANSACTIONS))?),
+            records: Count(records),
+            transactions: Count(transactions),
         })
     }
 }

@@ -2,16 +2,9 @@ ghost use Rattle.std.specs.Prelude.{◌≡◌};
 ghost use Rattle.tif.specs.Received.{names_whole, is_received};
 
 use crate::name::NAME_LENGTH;
-use lines::{Layout, is_same, line_of};
+use lines::is_same;
 
-// Received names are slots of 35 bytes and nothing else.
-const NAMES: Layout = Layout {
-    header: 0,
-    line: NAME_LENGTH,
-    footer: 0,
-};
-
-// Whether the received names are whole (E4).
+// Whether the received names are slots of 35 bytes and nothing else (E4).
 #[tactic(auto, unfolding(crate::specs::Received::names_whole))]
 pub fn names_whole(names: &[u8]) -> bool
     ensures { result ≡ names_whole names.now }
@@ -23,6 +16,7 @@ pub fn names_whole(names: &[u8]) -> bool
 pub fn is_received(names: &[u8], name: &[u8]) -> bool
     ensures { result ≡ is_received names.now name.now }
 {
-    let n = names.len() / NAME_LENGTH;
-    (0..n).any(|k| is_same(line_of(NAMES, names, k), name))
+    names
+        .chunks_exact(NAME_LENGTH)
+        .any(|slot| is_same(slot, name))
 }

@@ -1,11 +1,11 @@
-use mathlib.Core.Path.{sym, ap, ◌∙◌}
-use mathlib.Core.Bool.{not}
-use native.Mathlib.Omega.{arith}
-use Rattle.lines.specs.BelowLaws.{all_fails}
+use Rattle.std.proofs.Common.{rules}
+use Rattle.lines.specs.OverRange.{all_over}
+use Rattle.lines.specs.Tests.{tests}
 use Rattle.chains.specs.Index.{fresh_at, all_different}
 use Rattle.chains.proofs.search.none_repeated.Goals as goal
 
-pub returns-then-is_repeated : goal.returns-then-is_repeated
+pub returns : goal.returns
 unfolding all_different fresh_at
-returns-then-is_repeated c =
-    sym (all_fails _ _ c.loop-k.k (omega arith) (ap not (sym c.is_repeated.ensures ∙ c.if-is_repeated.true)))
+returns c =
+    let rows = c.args.rows in
+    all_over _ (fresh_at rows.layout rows.file.now rows.spans.now) _ _ _ c.all.ensures.ran (λ x b q k. search (rules, tests))

@@ -1,15 +1,18 @@
-use mathlib.Core.Path.{ap, ◌∙◌}
-use mathlib.Core.Bool.{Bool, not}
-use Rattle.book.specs.Layout.{width}
-use Rattle.cover.specs.Cover.{asked, covering_agreement, cover_in, cover_of}
+use Rattle.std.proofs.Common.{sym, ◌∙◌}
+use Rattle.lines.specs.Found.{found_is}
+use Rattle.cover.proofs.PlateCoverLaws.{named_some, named_none, blank_first}
 use Rattle.cover.proofs.cover.cover_at.Goals as goal
 
+pub returns-then-all_of : goal.returns-then-all_of
+returns-then-all_of c = c.first_cover.ensures ∙ blank_first _ _ _ _ _ (sym c.all_of.ensures ∙ c.if-all_of.true)
+
+pub returns-in_err-agreement_of : goal.returns-in_err-agreement_of
+returns-in_err-agreement_of c = c.from_residual.ensures ∙ named_none _ _ _ _ _ (sym c.all_of.ensures ∙ c.if-all_of.false) c.in_err-agreement_of.ensures
+
+pub cover_in_time-requires : goal.cover_in_time-requires
+cover_in_time-requires c = (c.requires.0, (found_is _ _ _ c.in_ok-agreement_of.ensures).1)
+
 pub returns : goal.returns
-unfolding cover_of
 returns c =
     let a = c.args in
-    c.cover_in.ensures
-    ∙ ap (cover_in width _ _) c.covering_agreement-i.ensures
-    ∙ ap (λ (t : Bool).
-    cover_in width a.book.now (asked (not t) a.moment.now a.plate.now a.nation.now) (covering_agreement width a.book.now a.pan.now (asked (not t) a.moment.now a.plate.now a.nation.now)))
-    c.all_of-named.ensures
+    c.cover_in_time.ensures a.plate.now a.nation.now ∙ named_some _ _ _ _ _ _ (sym c.all_of.ensures ∙ c.if-all_of.false) c.in_ok-agreement_of.ensures

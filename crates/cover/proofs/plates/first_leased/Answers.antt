@@ -9,9 +9,11 @@ use Rattle.book.specs.LayoutLaws.{period_length}
 use Rattle.book.specs.FormLaws.{whole_is}
 use Rattle.chains.specs.Hash.{hash_two}
 use Rattle.cover.specs.Cover.{asked, period_covers}
+use Rattle.cover.specs.Detected.{asked_by}
+use Rattle.lines.specs.Found.{found_first, found_past}
 use Rattle.cover.specs.Plates.{numbers_of, body_for, numbered, period_for, slot_at, covers_number, PeriodAt, PlatesIndexed, WayTo}
 use Rattle.cover.specs.PlatesLaws.{number_at, number_covers, stands_in, ends_low}
-use Rattle.cover.specs.PlateChainLaws.{to_start, to_number, to_hit, to_more, to_none}
+use Rattle.cover.specs.PlateChainLaws.{to_start, to_number, to_hit, to_more, to_past}
 use Rattle.cover.proofs.plates.first_leased.Goals as goal
 use Rattle.cover.proofs.plates.first_leased.Goals.{After-body_place-at, After-from-x-in-loop-x}
 
@@ -67,8 +69,10 @@ plate_covers-requires c =
 pub returns-then-plate_covers : goal.returns-then-plate_covers
 returns-then-plate_covers c =
     let n = number _ _ _ _ _ _ c.loop-x.x c.requires.1 c.loop-x.invariant c.agreements_of-n.ensures (omega arith) in
-    to_hit _ _ _ _ _ c.requires.1 c.loop-x.x c.loop-x.invariant (bound _ _ c.loop-x.x c.agreements_of-n.ensures (omega arith))
-    (told _ _ _ _ c.loop-x.x _ _ _ n c.body_place-at.ensures c.period_of.ensures c.plate_covers.ensures ∙ c.if-plate_covers.true)
+    let l = bound _ _ c.loop-x.x c.agreements_of-n.ensures (omega arith) in
+    found_first _ _ c.loop-x.x l
+    (to_hit _ _ _ _ _ c.requires.1 c.loop-x.x c.loop-x.invariant l
+    (told _ _ _ _ c.loop-x.x _ _ _ n c.body_place-at.ensures c.period_of.ensures c.plate_covers.ensures ∙ c.if-plate_covers.true))
 
 pub slot_at-requires : goal.slot_at-requires
 slot_at-requires c = ends_low _ _ _ _ (period (goal.at.slot_at-requires c).After-body_place-at)
@@ -79,7 +83,7 @@ bounds-links-slot_at c = omega (arith, c.slot_at.ensures.1, c.requires.1.long)
 -- one turn: the next number, which is greater
 on : (c : After-from-x-in-loop-x) →
     let a = c.args in
-    WayTo a.book.now a.links.now (asked false a.moment.now a.plate.now a.nation.now) (hash_two a.plate.now a.nation.now) c.from-x-in-loop-x.result × (c.loop-x.x < c.from-x-in-loop-x.result)
+    WayTo a.book.now a.links.now (asked_by a.detected) (hash_two a.detected.plate.now a.detected.nation.now) c.from-x-in-loop-x.result × (c.loop-x.x < c.from-x-in-loop-x.result)
 on c =
     let a = c.args in
     let n = number _ _ _ _ _ _ c.loop-x.x c.requires.1 c.loop-x.invariant c.agreements_of-n.ensures (omega arith) in
@@ -99,4 +103,4 @@ loop-x-preserved c = (on (goal.at.loop-x-preserved c).After-from-x-in-loop-x).0
 pub returns : goal.returns
 returns c =
     let f = ap (λ (i : ℕ). 64 * i) c.agreements_of-n.ensures in
-    to_none _ _ _ _ _ c.requires.1 c.loop-x.x c.loop-x.invariant (omega arith)
+    found_past _ _ (to_past _ _ _ _ _ c.requires.1 c.loop-x.x c.loop-x.invariant (omega arith))
