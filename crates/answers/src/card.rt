@@ -7,20 +7,15 @@ use lines::{Class, all_of};
 fn card_length(lent: bool) -> usize
     ensures { result ≡ verdicts_in_use lent * 2 }
 {
-    if lent {
-        return 18;
-    }
-    16
+    if lent { 18 } else { 16 }
 }
 
 // Whether the card has a code of two digits or capitals for each verdict in use.
+#[tactic(auto, using(lines::specs::Tests::tests), unfolding(crate::specs::Card::is_card))]
 pub fn is_card(card: &[u8], lent: bool) -> bool
     ensures { result ≡ is_card lent card.now }
 {
-    if card.len() != card_length(lent) {
-        return false;
-    }
-    all_of(Class::DigitOrCapital, card)
+    card.len() == card_length(lent) && all_of(Class::DigitOrCapital, card)
 }
 
 // Where the code of verdict number k, counted from 1, ends on the card.

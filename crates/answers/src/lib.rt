@@ -4,10 +4,12 @@
 mod answer;
 mod card;
 mod fault;
+mod inputs;
 mod listing;
 mod outcome;
 
-pub use answer::{Answer, CallFault, FileAnswer, Summary, answer_code, fault_number};
+pub use answer::{Answer, CallFault, FileAnswer, Summary};
 pub use fault::check_call;
+pub use inputs::Inputs;
 pub use listing::put_tic;
-pub use outcome::{file_answer, head_of, is_too_small, summarize, summarize_refused, sums_told};
+pub use outcome::{head_of, is_too_small, summarize, summarize_refused, sums_told};

@@ -16,8 +16,9 @@ use Rattle.chains.specs.declared.indexing.Index.{Index}
 use Rattle.chains.specs.Index.{Ruled, Asked, agrees_with, agrees_here, repeated_at, hash_at, hash_is, Linked, Indexed}
 use Rattle.chains.specs.IndexLaws.{ruled_fewer, linked_fewer, line_spanned}
 use Rattle.chains.specs.Chain.{Walk, OnChain}
+use Rattle.lines.specs.declared.columns.Columns.{Columns}
 
-module _ (l : Layout) (file spans ts other : List ℕ) where
+module _ (l : Layout) (file : List ℕ) (spans ts : List Columns) (other : List ℕ) where
   -- line j has the hash that is looked for
   abbrev sought : ℕ → Bool
   sought = hash_is l file spans (hash_of ts other)
@@ -88,7 +89,7 @@ module _ (l : Layout) (file spans ts other : List ℕ) where
     chain_end link o e = sym o.same ∙ ap (λ (k : ℕ). some_below k agrees) e ∙ some_zero agrees
 
 -- ---- a line of the file itself
-module _ (l : Layout) (file spans : List ℕ) (k : ℕ) where
+module _ (l : Layout) (file : List ℕ) (spans : List Columns) (k : ℕ) where
   -- agreement with line k is that of two lines of one kind
   pub own_repeated : some_below k (agrees_with l file spans spans (line_of l file k)) ≡ repeated_at l file spans k
   unfolding repeated_at agrees_with agrees_here agree_on

@@ -1,6 +1,7 @@
 -- The hash of a line: the texts of its spans, byte after byte, mixed into 32 bits, of which the upper 12 are taken. Assumes nothing.
 use Rattle.std.specs.Prelude.{◌≡◌, List, ℕ, zero, suc, ◌+◌, ◌*◌, ◌/◌, ◌%◌, ◌<◌, length, get_or}
 use Rattle.lines.specs.Spans.{span_count, span_of}
+use Rattle.lines.specs.declared.columns.Columns.{Columns}
 
 -- how many hashes there are
 abbrev pub hashes : ℕ
@@ -19,7 +20,7 @@ abbrev pub mix_text : ℕ → List ℕ → ℕ
 mix_text h text = mix_bytes h text (length text)
 
 -- the texts of the first m spans
-unfoldable pub mix_spans : List ℕ → List ℕ → ℕ → ℕ
+unfoldable pub mix_spans : List Columns → List ℕ → ℕ → ℕ
 mix_spans spans line zero = 0
 mix_spans spans line (suc m) = mix_text (mix_spans spans line m) (span_of spans line m)
 
@@ -27,7 +28,7 @@ mix_spans spans line (suc m) = mix_text (mix_spans spans line m) (span_of spans 
 abbrev pub folded : ℕ → ℕ
 folded h = mixed h 0 / 1048576 % 4096
 
-unfoldable pub hash_of : List ℕ → List ℕ → ℕ
+unfoldable pub hash_of : List Columns → List ℕ → ℕ
 hash_of spans line = folded (mix_spans spans line (span_count spans))
 
 -- the hash of two texts
@@ -40,6 +41,6 @@ pub record Mixed (h : ℕ) (text : List ℕ) (r : ℕ) : Type 0 where
   pub small : r < 4294967296
 
 -- r is the hash of the line
-pub record Hashed (spans line : List ℕ) (r : ℕ) : Type 0 where
+pub record Hashed (spans : List Columns) (line : List ℕ) (r : ℕ) : Type 0 where
   pub value : r ≡ hash_of spans line
   pub small : r < 4096

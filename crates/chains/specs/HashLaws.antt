@@ -8,6 +8,7 @@ use Rattle.lines.specs.BelowLaws.{all_at}
 use Rattle.lines.specs.SameLaws.{same_is}
 use Rattle.lines.specs.Spans.{span_count, span_of, span_agrees, agree_across}
 use Rattle.chains.specs.Hash.{mixed, mix_bytes, mix_text, mix_spans, folded, hash_of, hash_two}
+use Rattle.lines.specs.declared.columns.Columns.{Columns}
 
 pub bytes_zero : (h : ℕ) (text : List ℕ) → mix_bytes h text 0 ≡ h
 unfolding mix_bytes
@@ -17,15 +18,15 @@ pub bytes_suc : (h : ℕ) (text : List ℕ) (i : ℕ) → mix_bytes h text (i + 
 unfolding mix_bytes
 bytes_suc h text i = rw (add-one i)
 
-pub spans_zero : (spans line : List ℕ) → mix_spans spans line 0 ≡ 0
+pub spans_zero : (spans : List Columns) (line : List ℕ) → mix_spans spans line 0 ≡ 0
 unfolding mix_spans
 spans_zero spans line = refl
 
-pub spans_suc : (spans line : List ℕ) (m : ℕ) → mix_spans spans line (m + 1) ≡ mix_text (mix_spans spans line m) (span_of spans line m)
+pub spans_suc : (spans : List Columns) (line : List ℕ) (m : ℕ) → mix_spans spans line (m + 1) ≡ mix_text (mix_spans spans line m) (span_of spans line m)
 unfolding mix_spans
 spans_suc spans line m = rw (add-one m)
 
-pub hash_small : (spans line : List ℕ) → hash_of spans line < 4096
+pub hash_small : (spans : List Columns) (line : List ℕ) → hash_of spans line < 4096
 unfolding hash_of
 hash_small spans line = mod-lt (mixed (mix_spans spans line (span_count spans)) 0 / 1048576) (zero-lt-suc 4095)
 
@@ -34,7 +35,7 @@ unfolding hash_two
 two_small a b = mod-lt (mixed (mix_text (mix_text 0 a) b) 0 / 1048576) (zero-lt-suc 4095)
 
 -- ---- agreement
-module _ (ss a ts b : List ℕ) (agree : agree_across ss a ts b ≡ true) where
+module _ (ss : List Columns) (a : List ℕ) (ts : List Columns) (b : List ℕ) (agree : agree_across ss a ts b ≡ true) where
   texts_same : (m : ℕ) → m < span_count ss → span_of ss a m ≡ span_of ts b m
   unfolding agree_across span_agrees
   texts_same m h = same_is (span_of ss a m) (span_of ts b m) (all_at (span_agrees ss a ts b) (span_count ss) agree m h)

@@ -7,42 +7,43 @@ use Rattle.lines.specs.declared.rows.Layout.{Layout}
 use Rattle.chains.specs.Last.{last_below}
 use Rattle.chains.specs.Hash.{hash_of}
 use Rattle.chains.specs.declared.indexing.Index.{Index}
+use Rattle.lines.specs.declared.columns.Columns.{Columns}
 use Rattle.chains.specs.declared.indexing.Rows.{Rows}
 use Rattle.chains.specs.declared.search.Sought.{Sought}
 
 -- ---- what is asked
 -- line k, by the spans, agrees with the line `other` by the spans ts
-unfoldable pub agrees_with : Layout → List ℕ → List ℕ → List ℕ → List ℕ → ℕ → Bool
+unfoldable pub agrees_with : Layout → List ℕ → List Columns → List Columns → List ℕ → ℕ → Bool
 agrees_with l file spans ts other k = agree_across spans (line_of l file k) ts other
 
 -- one of the first n lines agrees with the line `other`
-unfoldable pub member_of : Layout → List ℕ → List ℕ → ℕ → List ℕ → List ℕ → Bool
+unfoldable pub member_of : Layout → List ℕ → List Columns → ℕ → List Columns → List ℕ → Bool
 member_of l file spans n ts other = some_below n (agrees_with l file spans ts other)
 
 -- line i agrees with line k
-unfoldable pub agrees_here : Layout → List ℕ → List ℕ → ℕ → ℕ → Bool
+unfoldable pub agrees_here : Layout → List ℕ → List Columns → ℕ → ℕ → Bool
 agrees_here l file spans k i = agree_on spans (line_of l file i) (line_of l file k)
 
 -- an earlier line agrees with line k
-unfoldable pub repeated_at : Layout → List ℕ → List ℕ → ℕ → Bool
+unfoldable pub repeated_at : Layout → List ℕ → List Columns → ℕ → Bool
 repeated_at l file spans k = some_below k (agrees_here l file spans k)
 
 -- no earlier line agrees with line k
-unfoldable pub fresh_at : Layout → List ℕ → List ℕ → ℕ → Bool
+unfoldable pub fresh_at : Layout → List ℕ → List Columns → ℕ → Bool
 fresh_at l file spans k = not (repeated_at l file spans k)
 
 -- no two of the first n lines agree
-unfoldable pub all_different : Layout → List ℕ → List ℕ → ℕ → Bool
+unfoldable pub all_different : Layout → List ℕ → List Columns → ℕ → Bool
 all_different l file spans n = all_below n (fresh_at l file spans)
 
 -- the file holds n lines, not too many, and the spans lie within a line
-pub record Ruled (l : Layout) (file spans : List ℕ) (n : ℕ) : Type 0 where
+pub record Ruled (l : Layout) (file : List ℕ) (spans : List Columns) (n : ℕ) : Type 0 where
   pub fits : line_place l n ≤ length file
   pub few : n ≤ most_lines
   pub inside : spans_in l.line spans ≡ true
 
 -- the spans ts lie within the line `other`, and are as many as the file's
-pub record Asked (spans ts other : List ℕ) : Type 0 where
+pub record Asked (spans ts : List Columns) (other : List ℕ) : Type 0 where
   pub inside : spans_in (length other) ts ≡ true
   pub paired : span_count spans ≡ span_count ts
 
@@ -58,24 +59,24 @@ agrees_at rows sought = agrees_with rows.layout rows.file.now rows.spans.now sou
 
 -- ---- the index
 -- the hash of line j
-unfoldable pub hash_at : Layout → List ℕ → List ℕ → ℕ → ℕ
+unfoldable pub hash_at : Layout → List ℕ → List Columns → ℕ → ℕ
 hash_at l file spans j = hash_of spans (line_of l file j)
 
 -- line j has the hash h
-unfoldable pub hash_is : Layout → List ℕ → List ℕ → ℕ → ℕ → Bool
+unfoldable pub hash_is : Layout → List ℕ → List Columns → ℕ → ℕ → Bool
 hash_is l file spans h j = eqb (hash_at l file spans j) h
 
 -- links[j] is the nearest line before j with j's hash, for each j below k
-pub record Linked (l : Layout) (file spans : List ℕ) (k : ℕ) (prev : List ℕ) : Type 0 where
+pub record Linked (l : Layout) (file : List ℕ) (spans : List Columns) (k : ℕ) (prev : List ℕ) : Type 0 where
   pub links : (j : ℕ) → j < k → get_or prev j 0 ≡ last_below j (hash_is l file spans (hash_at l file spans j))
 
 -- heads[h] is the last of the first k lines with the hash h, and these are linked
-pub record Indexed (l : Layout) (file spans : List ℕ) (k : ℕ) (index : Index) : Type 0 where
+pub record Indexed (l : Layout) (file : List ℕ) (spans : List Columns) (k : ℕ) (index : Index) : Type 0 where
   pub last : (h : ℕ) → h < 4096 → get_or index.heads h 0 ≡ last_below k (hash_is l file spans h)
   pub linked : Linked l file spans k index.links
 
 -- line k put in front of its chain
-pub record Entered (l : Layout) (file spans : List ℕ) (k : ℕ) (old new : Index) : Type 0 where
+pub record Entered (l : Layout) (file : List ℕ) (spans : List Columns) (k : ℕ) (old new : Index) : Type 0 where
   pub link : new.links ≡ set old.links k (get_or old.heads (hash_at l file spans k) 0)
   pub head : new.heads ≡ set old.heads (hash_at l file spans k) (k + 1)
 

@@ -16,8 +16,9 @@ use Rattle.chains.specs.LastLaws.{last_zero, last_hit, last_miss}
 use Rattle.chains.specs.HashLaws.{hash_small}
 use Rattle.chains.specs.declared.indexing.Index.{Index}
 use Rattle.chains.specs.Index.{Ruled, hash_at, hash_is, Linked, Indexed, Entered}
+use Rattle.lines.specs.declared.columns.Columns.{Columns}
 
-module _ (l : Layout) (file spans : List ℕ) where
+module _ (l : Layout) (file : List ℕ) (spans : List Columns) where
   -- ---- the lines
   pub ruled_fewer : (n m : ℕ) → m ≤ n → Ruled l file spans n → Ruled l file spans m
   ruled_fewer n m h r =

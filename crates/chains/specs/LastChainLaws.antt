@@ -10,8 +10,9 @@ use Rattle.chains.specs.Index.{Asked, agrees_with, hash_is}
 use Rattle.chains.specs.Chain.{Walk}
 use Rattle.chains.specs.ChainLaws.{only_hash, chain_start, chain_link, chain_down}
 use Rattle.chains.specs.LastChain.{OnLastChain}
+use Rattle.lines.specs.declared.columns.Columns.{Columns}
 
-module _ (l : Layout) (file spans ts other : List ℕ) where
+module _ (l : Layout) (file : List ℕ) (spans ts : List Columns) (other : List ℕ) where
   abbrev sought : ℕ → Bool
   sought = hash_is l file spans (hash_of ts other)
 

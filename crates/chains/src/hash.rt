@@ -35,17 +35,13 @@ fn folded(h: usize) -> usize
 }
 
 // The hash of the texts that the spans of the line hold.
-pub fn hash_line(line: &[u8], spans: &[usize]) -> usize
+pub fn hash_line(line: &[u8], spans: &[Columns]) -> usize
     requires { spans_in (length line.now) spans.now ≡ true }
     ensures { Hashed spans.now line.now result }
 {
     let mut h = 0;
-    for m in 0..spans.len() / 2 {
-        let span = Columns {
-            from: spans[m * 2],
-            to: spans[m * 2 + 1],
-        };
-        h = mix_text(h, field(line, span));
+    for &columns in spans {
+        h = mix_text(h, field(line, columns));
     }
     folded(h)
 }

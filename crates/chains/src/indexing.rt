@@ -2,14 +2,14 @@ ghost use Rattle.std.specs.Prelude.{◌≡◌, ◌+◌, replicate};
 ghost use Rattle.chains.specs.Index.{Ruled, AreRuled, AreIndexed, Entered};
 
 use crate::hash::hash_line;
-use lines::{Layout, line_of};
+use lines::{Columns, Layout, line_of};
 
 // The first `count` lines of a file, and the spans by which they are compared.
 #[derive(Clone, Copy)]
 pub struct Rows<'a> {
     pub layout: Layout,
     pub file: &'a [u8],
-    pub spans: &'a [usize],
+    pub spans: &'a [Columns],
     pub count: usize,
 }
 

@@ -5,13 +5,13 @@ ghost use Rattle.chains.specs.Chain.{Walk};
 
 use crate::hash::hash_line;
 use crate::indexing::{Index, Rows, index_lines};
-use lines::{agree_across, line_of};
+use lines::{Columns, agree_across, line_of};
 
 // What is looked for among the rows: a line, and the spans of it that are compared with theirs.
 #[derive(Clone, Copy)]
 pub struct Sought<'a> {
     pub line: &'a [u8],
-    pub spans: &'a [usize],
+    pub spans: &'a [Columns],
 }
 
 // The last line below `start` that agrees with the sought one, counted from 0. Only lines of the chain from `start` are looked at.

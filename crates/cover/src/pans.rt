@@ -7,9 +7,10 @@ ghost use Rattle.cover.specs.Pans.{pan_span, PansIndexed};
 
 use book::{ENTRIES, PAN, agreements_of};
 use chains::{Index, Rows, Sought, index_lines, last_agreeing};
+use lines::Columns;
 
 // The PAN of an entry, and all of a PAN that is asked for.
-const PAN_SPAN: [usize; 2] = [PAN.from, PAN.to];
+const PAN_SPAN: [Columns; 1] = [PAN];
 
 // The entries of a book, by their PANs.
 fn entries(book: &[u8]) -> Rows<'_>

@@ -19,6 +19,7 @@ use Rattle.debits.specs.Credits.{marks_after, place_at, credit_accepted}
 use Rattle.debits.specs.CreditsLaws.{unmarked_set, skipped_is, after_length}
 use Rattle.debits.proofs.AcceptedLaws.{accepted_is}
 use Rattle.debits.specs.Counting.{count_below, except, count_suc, count_same, count_except, one_none, one_same}
+use Rattle.lines.specs.declared.columns.Columns.{Columns}
 
 -- ---- agreement is that the texts of the spans are equal, so what agrees with one of two that agree agrees with the other
 all_same : (p q : ℕ → Bool) (n : ℕ) → ((i : ℕ) → i < n → p i ≡ q i) → all_below n p ≡ all_below n q
@@ -26,7 +27,7 @@ unfolding all_below
 all_same p q zero e = refl
 all_same p q (suc n) e = rw (e n (omega arith), all_same p q n (λ i h. e i (omega arith)))
 
-pub agree_through : (spans a b c : List ℕ) → agree_on spans a b ≡ true → agree_on spans a c ≡ agree_on spans b c
+pub agree_through : (spans : List Columns) (a b c : List ℕ) → agree_on spans a b ≡ true → agree_on spans a c ≡ agree_on spans b c
 unfolding agree_on agree_across span_agrees
 agree_through spans a b c e =
     all_same (span_agrees spans a spans c) (span_agrees spans b spans c) (span_count spans)

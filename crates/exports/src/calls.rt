@@ -3,27 +3,22 @@ ghost use Rattle.judge.specs.Call.{call_of};
 ghost use Rattle.exports.specs.Calls.{summary_told, AnswerTold, CallJudged};
 
 use crate::numbers::{call_fault_number, side_number};
-use answers::{Answer, Summary, answer_code};
+use answers::{Answer, Inputs, Summary};
 use judge::judge_words;
 
 // Writes the nine values of a call that is answered.
 fn put_summary(summary: &mut [u64; 9], s: Summary)
     ensures { summary.new ≡ summary_told s }
 {
-    let answer = s.answer;
-    let side = s.side;
-    let total = s.total;
-    let accepted_amount = s.accepted_amount;
-    let refused_amount = s.refused_amount;
     *summary = [
-        answer_code(answer),
-        side_number(side),
+        u64::from(s.answer),
+        side_number(s.side),
         s.lines as u64,
         s.accepted as u64,
         s.refused as u64,
-        total.0,
-        accepted_amount.0,
-        refused_amount.0,
+        s.total.0,
+        s.accepted_amount.0,
+        s.refused_amount.0,
         s.length as u64,
     ];
 }
@@ -60,9 +55,17 @@ pub extern "C" fn quindaf_judge_with(
 ) -> u32
     ensures { CallJudged (call_of name.now received.now card.now names.now book.now debits.now marks.old tif.now tst.now room out.old) words.old summary.old result marks.new words.new out.new summary.new }
 {
-    let answer = judge_words(
-        name, received, card, names, book, debits, marks, tif, tst, room, words, out,
-    );
+    let inputs = Inputs {
+        name,
+        received,
+        card,
+        names,
+        book,
+        debits,
+        tif,
+        tst,
+    };
+    let answer = judge_words(inputs, marks, room, words, out);
     tell_answer(summary, answer)
 }
 
@@ -84,7 +87,6 @@ pub extern "C" fn quindaf_judge(
 ) -> u32
     ensures { CallJudged (call_of name.now received.now card.now names.now book.now debits.now marks.old tif.now [] room out.old) words.old summary.old result marks.new words.new out.new summary.new }
 {
-    let none = [0u8; 1];
     quindaf_judge_with(
         name,
         received,
@@ -94,7 +96,7 @@ pub extern "C" fn quindaf_judge(
         debits,
         marks,
         tif,
-        &none[0..0],
+        &[],
         room,
         words,
         out,

@@ -19,5 +19,5 @@ pub fn side_number(side: Side) -> u64
 pub fn call_fault_number(fault: CallFault) -> u32
     ensures { result ≡ call.fault_number fault }
 {
-    answers::fault_number(fault) as u32
+    u64::from(fault) as u32
 }

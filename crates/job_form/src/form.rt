@@ -23,11 +23,9 @@ fn body_place(job: &[u8], k: usize) -> usize
     requires { (32 ≤ length job.now) × (k ≤ 8) }
     ensures { result ≡ body_place job.now k }
 {
-    let mut at: usize = 32;
-    let mut i = 0;
-    while i < k {
-        at = at + length_at(job, i);
-        i += 1;
+    let mut at = 32;
+    for i in 0..k {
+        at += length_at(job, i);
     }
     at
 }
@@ -37,13 +35,7 @@ fn body_place(job: &[u8], k: usize) -> usize
 pub fn is_job(job: &[u8]) -> bool
     ensures { result ≡ is_job job.now }
 {
-    if job.len() > MOST {
-        return false;
-    }
-    if job.len() < 32 {
-        return false;
-    }
-    body_place(job, 8) == job.len()
+    job.len() <= MOST && job.len() >= 32 && body_place(job, 8) == job.len()
 }
 
 // Body k of a job, counted from 0.

@@ -3,7 +3,7 @@ ghost use Rattle.lines.specs.Splice.{Put};
 ghost use Rattle.job_line.specs.Line.{fault_text, head_text, counts_text, amounts_text, summary_text, answer_text};
 
 use crate::number::{put_decimal, put_three};
-use answers::{Answer, CallFault, Summary, answer_code, fault_number};
+use answers::{Answer, CallFault, Summary};
 use lines::{put_digits, put_run};
 use tic_text::put_side;
 
@@ -13,7 +13,7 @@ fn put_fault(line: &mut [u8], at: usize, fault: CallFault) -> usize
     ensures { Put (fault_text fault) at line.old result line.new }
 {
     let mid = put_run(line, at, 1, b'E');
-    put_decimal(line, mid, fault_number(fault))
+    put_decimal(line, mid, u64::from(fault))
 }
 
 // The acceptance and the side.
@@ -21,11 +21,9 @@ fn put_head(line: &mut [u8], at: usize, s: Summary) -> usize
     requires { at + 6 ≤ length line.old }
     ensures { Put (head_text s) at line.old result line.new }
 {
-    let answer = s.answer;
-    let side = s.side;
-    let mid = put_digits(line, at, 2, answer_code(answer));
+    let mid = put_digits(line, at, 2, u64::from(s.answer));
     let mid = put_run(line, mid, 1, b' ');
-    put_side(line, mid, side)
+    put_side(line, mid, s.side)
 }
 
 // Lines, accepted and refused.
@@ -47,10 +45,7 @@ fn put_amounts(line: &mut [u8], at: usize, s: Summary) -> usize
     requires { at + 63 ≤ length line.old }
     ensures { Put (amounts_text s) at line.old result line.new }
 {
-    let total = s.total;
-    let accepted = s.accepted_amount;
-    let refused = s.refused_amount;
-    put_three(line, at, total.0, accepted.0, refused.0)
+    put_three(line, at, s.total.0, s.accepted_amount.0, s.refused_amount.0)
 }
 
 // The acceptance and its seven values.

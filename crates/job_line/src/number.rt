@@ -9,13 +9,11 @@ fn digit_count(value: u64) -> usize
     ensures { result ≡ digit_count 20 value }
 {
     let mut rest = value;
-    let mut left: usize = 20;
-    while left > 1 {
+    for digits in 1..20 {
         if rest < 10 {
-            return 21 - left;
+            return digits;
         }
-        rest = rest / 10;
-        left -= 1;
+        rest /= 10;
     }
     20
 }

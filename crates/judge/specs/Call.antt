@@ -15,6 +15,7 @@ use Rattle.answers.specs.Answer.{Answer}
 use Rattle.answers.specs.Answer.{CallCheck}
 use Rattle.answers.specs.declared.answer.CallFault.TheVariants.{Room}
 use Rattle.answers.specs.declared.answer.Summary.{Summary}
+use Rattle.answers.specs.declared.inputs.Inputs.{Inputs}
 
 -- everything lent; of the record table only its length decides
 pub record Call : Type 0 where
@@ -44,6 +45,10 @@ call_of name received card names book debits marks tif tst room out = record {
   room = room;
   out = out;
 }
+
+-- the same of what is lent for reading together, and of what is lent for writing
+abbrev pub call_with : Inputs → List ℕ → ℕ → List ℕ → Call
+call_with i marks room out = call_of i.name.now i.received.now i.card.now i.names.now i.book.now i.debits.now marks i.tif.now i.tst.now room out
 
 -- E1 to E6 and E8
 abbrev pub check_of : Call → CallCheck

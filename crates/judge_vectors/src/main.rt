@@ -4,13 +4,13 @@
 ghost use Rattle.std.specs.Prelude.{ℕ, ◌<◌};
 ghost use Rattle.judge.specs.Records.{LineKnown};
 
-use answers::{Answer, CallFault, FileAnswer, Summary, answer_code, fault_number};
+use answers::{Answer, CallFault, FileAnswer, Inputs, Summary};
 use frames::{print_bytes, print_line_feed, print_marks, print_number, read_part, run_cases};
 use judge::{judge_words, lines_to_record};
 use std::io;
 use std::io::{Read, Write};
 use tif::{Side, tif_line};
-use verdicts::{Record, record_of, verdict_of};
+use verdicts::{Record, Verdict, record_of};
 
 // As many lines and debits as a case may bring, with room for some too many.
 const MOST: usize = 20;
@@ -26,12 +26,12 @@ fn print_size(to: &mut impl Write, size: usize) -> io::Result<()> {
 
 fn print_fault(to: &mut impl Write, fault: CallFault) -> io::Result<()> {
     print_bytes(to, b"E")?;
-    print_number(to, fault_number(fault))
+    print_number(to, u64::from(fault))
 }
 
 fn print_file_answer(to: &mut impl Write, answer: FileAnswer) -> io::Result<()> {
     print_bytes(to, b"0")?;
-    print_number(to, answer_code(answer))?;
+    print_number(to, u64::from(answer))?;
     print_bytes(to, b" ")
 }
 
@@ -96,7 +96,7 @@ fn print_line_judged(to: &mut impl Write, tif: &[u8], words: &[u64], k: usize) -
     let word = words[k];
     print_record(
         to,
-        record_of(tif_line(tif, k), k + 1, verdict_of(word)),
+        record_of(tif_line(tif, k), k + 1, Verdict::from(word)),
         word,
     )
 }
@@ -137,9 +137,17 @@ fn run_call(
     out: &mut [u8],
 ) -> io::Result<()> {
     let mut words = [0u64; 9999];
-    let answer = judge_words(
-        name, received, card, names, book, debits, marks, tif, tst, room, &mut words, out,
-    );
+    let inputs = Inputs {
+        name,
+        received,
+        card,
+        names,
+        book,
+        debits,
+        tif,
+        tst,
+    };
+    let answer = judge_words(inputs, marks, room, &mut words, out);
     print_answer(to, answer)?;
     print_marks_between(to, marks)?;
     print_lines_judged(to, tif, &words, lines_to_record(answer))?;

@@ -14,6 +14,10 @@ col n line = get_or line (n - 1) 0
 abbrev pub field_of : Columns → List ℕ → List ℕ
 field_of c line = cols c.from c.to line
 
+-- the columns from one to another, as a name
+abbrev pub columns : ℕ → ℕ → Columns
+columns from to = record { from = from; to = to }
+
 -- a field that a line of `width` bytes has
 pub record Inside (c : Columns) (width : ℕ) : Type 0 where
   pub first : 1 ≤ c.from

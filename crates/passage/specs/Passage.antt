@@ -1,6 +1,7 @@
 -- A line of a TIF body: one passage. Its columns, counted from 1 as AP-3.7 (2.2) counts them. Assumes nothing.
 use Rattle.std.specs.Prelude.{List, [], ◌∷◌, ℕ}
-use Rattle.lines.specs.Columns.{cols}
+use Rattle.lines.specs.Columns.{cols, columns}
+use Rattle.lines.specs.declared.columns.Columns.{Columns}
 
 -- how wide a line is, its line feed included: W
 abbrev pub line_width : ℕ
@@ -57,9 +58,9 @@ abbrev pub tariff_class : List ℕ → List ℕ
 tariff_class line = cols 298 299 line
 
 -- what two lines of one file must not share (L6)
-abbrev pub repeat_spans : List ℕ
-repeat_spans = 2 ∷ 22 ∷ 61 ∷ 74 ∷ 77 ∷ 82 ∷ 84 ∷ 91 ∷ 252 ∷ 263 ∷ []
+abbrev pub repeat_spans : List Columns
+repeat_spans = columns 2 22 ∷ columns 61 74 ∷ columns 77 82 ∷ columns 84 91 ∷ columns 252 263 ∷ []
 
 -- what a debit and its credit share (L8)
-abbrev pub credit_spans : List ℕ
-credit_spans = 4 ∷ 22 ∷ 61 ∷ 74 ∷ 77 ∷ 82 ∷ 84 ∷ 91 ∷ 252 ∷ 263 ∷ 137 ∷ 147 ∷ []
+abbrev pub credit_spans : List Columns
+credit_spans = columns 4 22 ∷ columns 61 74 ∷ columns 77 82 ∷ columns 84 91 ∷ columns 252 263 ∷ columns 137 147 ∷ []

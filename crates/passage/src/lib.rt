@@ -38,8 +38,28 @@ pub const EMISSION: Columns = Columns { from: 296, to: 297 };
 
 pub const TARIFF_CLASS: Columns = Columns { from: 298, to: 299 };
 
+// Fields that stand side by side, compared as one text.
+const TYPE_AND_PAN: Columns = Columns { from: 2, to: 22 };
+
+const STATION_AND_LANE: Columns = Columns { from: 84, to: 91 };
+
+const DETECTED_VEHICLE: Columns = Columns { from: 252, to: 263 };
+
 // What two lines of one file must not share (L6): type and PAN, exit moment, actor, station and lane, detected plate and nation.
-pub const REPEAT_SPANS: [usize; 10] = [2, 22, 61, 74, 77, 82, 84, 91, 252, 263];
+pub const REPEAT_SPANS: [Columns; 5] = [
+    TYPE_AND_PAN,
+    EXIT_MOMENT,
+    EXIT_ACTOR,
+    STATION_AND_LANE,
+    DETECTED_VEHICLE,
+];
 
 // What a debit and its credit share (L8): PAN, exit moment, actor, station and lane, detected plate and nation, amount with VAT.
-pub const CREDIT_SPANS: [usize; 12] = [4, 22, 61, 74, 77, 82, 84, 91, 252, 263, 137, 147];
+pub const CREDIT_SPANS: [Columns; 6] = [
+    PAN,
+    EXIT_MOMENT,
+    EXIT_ACTOR,
+    STATION_AND_LANE,
+    DETECTED_VEHICLE,
+    GROSS_AMOUNT,
+];

@@ -2,7 +2,8 @@
 use Rattle.std.specs.Prelude.{◌≡◌, refl, Bool, true, false, List, ℕ, ◌*◌, ◌≤◌, Some, None}
 use Rattle.std.proofs.Common.{arith}
 use Rattle.lines.specs.Below.{all_below, sum_below}
-use Rattle.lines.specs.BelowLaws.{all_at, sum_le}
+use Rattle.lines.specs.BelowLaws.{all_zero, all_more, all_at, sum_zero, sum_suc, sum_le}
+use Rattle.lines.specs.RowsLaws.{line_ends, line_length}
 use Rattle.passage.specs.PassageLaws.{gross_small}
 use Rattle.tif.specs.Body.{gross_of, amount_if, line_sound, line_amount, line_at, line_sound_at, amount_at}
 use Rattle.tif.specs.Every.{every_first, every_rest}
@@ -46,3 +47,6 @@ line_not tif k e = amount_not _ _ e
 pub line_is : (tif : List ℕ) (k : ℕ) (g : Gross) → line_amount (line_at tif k) ≡ Some g → (line_sound_at tif k ≡ true) × (g ≡ gross_of (amount_at tif k))
 unfolding line_amount line_sound_at amount_at
 line_is tif k g e = amount_is _ _ g e
+
+-- what a loop that sums the amounts rests on
+pub ruleset summing = (all_zero, all_more, sum_zero, sum_suc, line_ends, line_length, line_is, amount_good, amount_small, sum_small)

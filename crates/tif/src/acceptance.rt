@@ -25,7 +25,7 @@ pub enum FileFault {
 }
 
 // The acceptance of a file under its name, by the names received before.
-#[tactic(auto, unfolding(crate::specs::Acceptance::acceptance_of, crate::specs::Header::header_of_file, crate::specs::Footer::footer_amount, crate::specs::Body::body_amount, crate::specs::Body::amount_if, lines::specs::FirstOf::first_of))]
+#[tactic(auto, using(crate::specs::AcceptanceLaws::framing), unfolding(crate::specs::Acceptance::acceptance_of, crate::specs::Header::header_of_file, crate::specs::Footer::footer_amount, crate::specs::Body::body_amount, crate::specs::Body::amount_if, lines::specs::FirstOf::first_of))]
 pub fn acceptance_of(name: &[u8], names: &[u8], tif: &[u8]) -> Result<Whole, FileFault>
     ensures { result ≡ acceptance_of name.now names.now tif.now }
 {

@@ -21,6 +21,7 @@ pub fn line_amount(line: &[u8]) -> Option<Gross>
 }
 
 // The exact sum of the amounts of n lines, where all are of the right form.
+#[tactic(auto, using(crate::specs::BodyLaws::summing), unfolding(crate::specs::Body::body_amount, crate::specs::Body::body_sound, crate::specs::Body::body_total))]
 pub fn body_amount(tif: &[u8], n: usize) -> Option<Gross>
     requires { (file_length tif_layout n ≤ length tif.now) × (n ≤ most_lines) }
     ensures { result ≡ body_amount tif.now n }

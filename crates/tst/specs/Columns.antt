@@ -1,7 +1,8 @@
 -- The columns of a toll station table, counted from 1 as AP-3.4 (2.1 to 2.3) counts them. Assumes nothing.
 use Rattle.std.specs.Prelude.{List, [], ◌∷◌, ℕ}
-use Rattle.lines.specs.Columns.{cols}
+use Rattle.lines.specs.Columns.{cols, columns}
 use Rattle.lines.specs.declared.rows.Layout.{Layout}
+use Rattle.lines.specs.declared.columns.Columns.{Columns}
 
 abbrev pub header_width : ℕ
 header_width = 128
@@ -40,9 +41,9 @@ lane row = cols 117 120 row
 
 -- ---- the triple
 -- actor, station and lane of a table's line
-abbrev pub station_spans : List ℕ
-station_spans = 4 ∷ 9 ∷ 61 ∷ 64 ∷ 117 ∷ 120 ∷ []
+abbrev pub station_spans : List Columns
+station_spans = columns 4 9 ∷ columns 61 64 ∷ columns 117 120 ∷ []
 
 -- exit actor, station and lane of a TIF's line
-abbrev pub exit_spans : List ℕ
-exit_spans = 77 ∷ 82 ∷ 84 ∷ 87 ∷ 88 ∷ 91 ∷ []
+abbrev pub exit_spans : List Columns
+exit_spans = columns 77 82 ∷ columns 84 87 ∷ columns 88 91 ∷ []

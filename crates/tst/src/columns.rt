@@ -20,7 +20,7 @@ pub const STATION: Columns = Columns { from: 61, to: 64 };
 pub const LANE: Columns = Columns { from: 117, to: 120 };
 
 // What no two lines of a table share: actor, station and lane.
-pub const STATION_SPANS: [usize; 6] = [4, 9, 61, 64, 117, 120];
+pub const STATION_SPANS: [Columns; 3] = [ACTOR, STATION, LANE];
 
 // Exit actor, station and lane of a TIF's line.
-pub const EXIT_SPANS: [usize; 6] = [77, 82, 84, 87, 88, 91];
+pub const EXIT_SPANS: [Columns; 3] = [passage::EXIT_ACTOR, passage::STATION, passage::LANE];

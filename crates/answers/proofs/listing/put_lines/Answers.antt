@@ -10,7 +10,7 @@ use Rattle.answers.proofs.listing.put_lines.Goals as goal
 
 pub loop-k-init : goal.loop-k-init
 unfolding listed_lines
-loop-k-init c = (rw (join_zero (refused_text _ _ _)) (put_none _ _), omega arith, refl)
+loop-k-init c = (rw (join_zero (refused_text _ _ _)) (put_none _ _), refl)
 
 pub put_refused-at-requires : goal.put_refused-at-requires
 put_refused-at-requires c =
@@ -20,10 +20,9 @@ put_refused-at-requires c =
 pub loop-k-preserved : goal.loop-k-preserved
 unfolding listed_lines
 loop-k-preserved c =
-    let within = lines_within c.args.tif.now c.args.card.now c.args.words.now c.requires.worded c.loop-k.k (omega arith) in (
-      rw (join_suc (refused_text c.args.tif.now c.args.card.now c.args.words.now) c.loop-k.k)
+    let within = lines_within c.args.inputs.tif.now c.args.inputs.card.now c.args.words.now c.requires.worded c.loop-k.k (omega arith) in (
+      rw (join_suc (refused_text c.args.inputs.tif.now c.args.inputs.card.now c.args.words.now) c.loop-k.k)
           (put_more _ _ c.args.from c.loop-k.at _ c.args.out.now c.loop-k.out _ (omega (arith, c.requires.room)) c.loop-k.invariant.0 c.put_refused-at.ensures),
-      omega arith,
       search rules,
     )
 

@@ -1,4 +1,3 @@
-use Prim.Native.Nat.{◌-◌, ◌≤◌}
 use mathlib.Core.Path.{◌≡◌}
 use lib.ListN.{length}
 use Rattle.lines.specs.Splice.{Put}
@@ -6,7 +5,4 @@ use Rattle.answers.specs.Listing.{listed_lines}
 use Rattle.answers.proofs.listing.put_lines.Given as goal
 
 abbrev pub invariant-loop-k : goal.invariant-loop-k
-invariant-loop-k l = Put (listed_lines l.tif l.card l.words l.k) l.from l.initial.out l.at l.out × (l.k ≤ length l.words) × (length l.out ≡ length l.initial.out)
-
-abbrev pub decreases-loop-k : goal.decreases-loop-k
-decreases-loop-k l = length l.words - l.k
+invariant-loop-k l = Put (listed_lines l.inputs.tif.now l.inputs.card.now l.words l.k) l.from l.initial.out l.at l.out × (length l.out ≡ length l.initial.out)

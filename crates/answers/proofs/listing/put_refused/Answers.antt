@@ -12,7 +12,7 @@ use Rattle.answers.proofs.listing.put_refused.Goals.{After-code_of, Else-number-
 pub returns-then-number-eq0 : goal.returns-then-number-eq0
 returns-then-number-eq0 c =
     let a = c.args in
-    rw (sym (text_no a.tif.now a.card.now a.words.now a.k (sym c.number_at-number.ensures ∙ c.if-number-eq0.true))) (put_none a.at a.out.now)
+    rw (sym (text_no a.inputs.tif.now a.inputs.card.now a.words.now a.k (sym c.number_at-number.ensures ∙ c.if-number-eq0.true))) (put_none a.at a.out.now)
 
 numbered : (c : Else-number-eq0) → let a = c.args in number_at a.words.now a.k ≡ 0 → ⊥
 numbered c z = c.if-number-eq0.false (c.number_at-number.ensures ∙ z)
@@ -25,10 +25,10 @@ code_of-requires c =
     rw c.number_at-number.ensures (record { counted = omega (arith, numbered (goal.at.code_of-requires c).Else-number-eq0); known = c.requires.0.known c.args.k c.requires.1 })
 
 -- the line and the code that were cut
-line_is : (c : After-code_of) → c.tif_line.result.now ≡ line_at c.args.tif.now c.args.k
+line_is : (c : After-code_of) → c.tif_line.result.now ≡ line_at c.args.inputs.tif.now c.args.k
 line_is c = c.tif_line.ensures
 
-code_is : (c : After-code_of) → c.code_of.result.now ≡ code_of c.args.card.now (number_at c.args.words.now c.args.k)
+code_is : (c : After-code_of) → c.code_of.result.now ≡ code_of c.args.inputs.card.now (number_at c.args.words.now c.args.k)
 code_is c = c.code_of.ensures ∙ ap (code_of _) c.number_at-number.ensures
 
 pub put_listed-requires : goal.put_listed-requires
@@ -42,4 +42,4 @@ put_listed-requires c =
 
 pub returns : goal.returns
 returns c =
-    rw (sym (text_of c.args.tif.now c.args.card.now c.args.words.now c.args.k _ _ (line_is (goal.at.returns c).After-code_of) (code_is (goal.at.returns c).After-code_of) (numbered (goal.at.returns c).Else-number-eq0))) c.put_listed.ensures
+    rw (sym (text_of c.args.inputs.tif.now c.args.inputs.card.now c.args.words.now c.args.k _ _ (line_is (goal.at.returns c).After-code_of) (code_is (goal.at.returns c).After-code_of) (numbered (goal.at.returns c).Else-number-eq0))) c.put_listed.ensures

@@ -16,7 +16,7 @@ put_header-mid-requires c =
     }
 
 header_put : (c : After-put_header-mid) → let a = c.args in
-    Put (header_text (name_receiver a.name.now) (name_stem a.name.now) a.received.now a.head) 0 a.out.now c.put_header-mid.result c.put_header-mid.new.out
+    Put (header_text (name_receiver a.inputs.name.now) (name_stem a.inputs.name.now) a.inputs.received.now a.head) 0 a.out.now c.put_header-mid.result c.put_header-mid.new.out
 header_put c = rw (c.field.ensures, c.field-2.ensures) at c.put_header-mid.ensures
 
 pub put_lines-mid-requires : goal.put_lines-mid-requires

@@ -3,5 +3,5 @@ use Prim.Native.Nat.{◌<◌}
 use Rattle.chains.specs.Hash.{mix_spans}
 use Rattle.chains.proofs.hash.hash_line.Given as goal
 
-abbrev pub invariant-loop-m : goal.invariant-loop-m
-invariant-loop-m l = (l.h ≡ mix_spans l.spans l.line l.m) × (l.h < 4294967296)
+abbrev pub invariant-loop-columns : goal.invariant-loop-columns
+invariant-loop-columns l = (l.h ≡ mix_spans l.spans l.line l.columns-index) × (l.h < 4294967296)

@@ -4,7 +4,7 @@ use Rattle.job_form.specs.FormLaws.{body_length}
 use Rattle.job.proofs.call.judge_job.Goals as goal
 
 pub judge_bodies-requires : goal.judge_bodies-requires
-judge_bodies-requires c = rw c.body_of-7.ensures (body_length _ c.requires 6 (omega arith))
+judge_bodies-requires c = rw c.body_of-8.ensures (body_length _ c.requires 6 (omega arith))
 
 pub returns : goal.returns
 returns c =

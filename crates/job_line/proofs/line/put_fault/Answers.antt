@@ -15,4 +15,4 @@ returns c =
     let p = c.put_run-mid in
     let q = c.put_decimal in
     let n = decimal (fault_number a.fault) in
-    put_more (69 ∷ []) n a.at p.result q.result a.line.now p.new.out q.new.line (omega arith) p.ensures (rw (← c.fault_number.ensures) q.ensures)
+    put_more (69 ∷ []) n a.at p.result q.result a.line.now p.new.out q.new.line (omega arith) p.ensures (rw (← c.from.ensures) q.ensures)

@@ -12,12 +12,12 @@ use Rattle.job_line.proofs.line.put_head.Goals as goal
 pub put_run-mid-requires : goal.put_run-mid-requires
 put_run-mid-requires c =
     let p = c.put_digits-mid in
-    omega (arith, p.ensures.place, digits_length 2 c.answer_code.result)
+    omega (arith, p.ensures.place, digits_length 2 c.from.result)
 
 pub put_side-requires : goal.put_side-requires
 put_side-requires c =
     let p = c.put_digits-mid in
-    omega (arith, c.put_run-mid.ensures.place, p.ensures.place, digits_length 2 c.answer_code.result)
+    omega (arith, c.put_run-mid.ensures.place, p.ensures.place, digits_length 2 c.from.result)
 
 pub returns : goal.returns
 unfolding head_text
@@ -29,5 +29,5 @@ returns c =
     let d = digits_of 2 (answer_code a.s.answer) in
     let l = digits_length 2 (answer_code a.s.answer) in
     put_more (d ++ (32 ∷ [])) (side_text a.s.side) a.at q.result r.result a.line.now q.new.out r.new.out (omega (arith, l, length-append d (32 ∷ [])))
-    (put_more d (32 ∷ []) a.at p.result q.result a.line.now p.new.out q.new.out (omega (arith, l)) (rw (← c.answer_code.ensures) p.ensures) q.ensures)
+    (put_more d (32 ∷ []) a.at p.result q.result a.line.now p.new.out q.new.out (omega (arith, l)) (rw (← c.from.ensures) p.ensures) q.ensures)
     r.ensures

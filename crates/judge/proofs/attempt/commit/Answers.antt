@@ -15,7 +15,7 @@ put_tic-requires c =
 pub returns : goal.returns
 returns c =
     let a = c.args in
-    let text : TicHead → TicSums → List ℕ = λ h t. splice a.out.now 0 (tic_text (tic_of a.name.now a.received.now a.card.now a.tif.now a.words.now h t)) in
+    let text : TicHead → TicSums → List ℕ = λ h t. splice a.out.now 0 (tic_text (tic_of a.inputs.name.now a.inputs.received.now a.inputs.card.now a.inputs.tif.now a.words.now h t)) in
     record {
       marks_then = c.put_bytes.ensures.spliced ∙ splice_whole a.marks.now a.mine.now c.requires.same;
       out_then = c.put_tic.ensures.spliced ∙ ap₂ text c.head_of.ensures c.sums_told.ensures;

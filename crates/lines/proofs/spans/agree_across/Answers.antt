@@ -21,7 +21,7 @@ field-requires-in-loop-m c =
 -- what the comparison of the two fields says of span m
 compared : (c : After-is_same) → c.is_same.result ≡ span_agrees c.args.ss.now c.args.a.now c.args.ts.now c.args.b.now c.loop-m.m
 unfolding span_agrees
-compared c = rw (c.is_same.ensures, c.field.ensures, c.field-in-loop-m.ensures, c.span_of.ensures.0, c.span_of.ensures.1, c.span_of-in-loop-m.ensures.0, c.span_of-in-loop-m.ensures.1)
+compared c = rw (c.is_same.ensures, c.field.ensures, c.field-in-loop-m.ensures)
 
 pub returns-then-not-is_same : goal.returns-then-not-is_same
 unfolding agree_across
