@@ -7,7 +7,7 @@ use answers::{
     Answer, CallFault, FileAnswer, Inputs, Summary, check_call, head_of, is_too_small, put_tic,
     summarize, summarize_refused, sums_told,
 };
-use judging::judge_lines;
+use judging::Judging;
 use lines::{field, put_bytes};
 use tif::{FileFault, NAME_SENDER, Whole, acceptance_of, side_of};
 
@@ -16,16 +16,15 @@ fn judge_parts(inputs: Inputs, m: usize, mine: &mut [u8], n: usize, words: &mut 
     requires { LinesReady inputs.name.now inputs.book.now inputs.debits.now (take m mine.old) inputs.tif.now inputs.tst.now n words.old × (m ≤ length mine.old) }
     ensures { Filled inputs.entry.name.now inputs.entry.book.now inputs.entry.debits.now (take m mine.old) inputs.entry.tif.now inputs.entry.tst.now n words.old mine.new words.new }
 {
-    judge_lines(
-        side_of(inputs.tif),
-        field(inputs.name, NAME_SENDER),
-        inputs.book,
-        inputs.debits,
-        &mut mine[0..m],
-        inputs.tif,
-        inputs.tst,
-        &mut words[0..n],
-    );
+    let judging = Judging {
+        side: side_of(inputs.tif),
+        sender: field(inputs.name, NAME_SENDER),
+        book: inputs.book,
+        debits: inputs.debits,
+        tif: inputs.tif,
+        tst: inputs.tst,
+    };
+    judging.judge_lines(&mut mine[0..m], &mut words[0..n]);
 }
 
 // Copies the marks, and judges on the copy. Nothing of the caller's is written but words.

@@ -2,14 +2,14 @@ ghost use Rattle.std.specs.Prelude.{◌≡◌, ℕ, ◌<◌, ◌≤◌, ◌++◌
 ghost use Rattle.judge.specs.Records.{LineKnown, record_at, records_to};
 
 use tif::tif_line;
-use verdicts::{Record, record_of, verdict_of};
+use verdicts::{Record, Verdict, record_of};
 
 // The record of line k, counted from 0, by its word.
 fn record_at(tif: &[u8], words: &[u64], k: usize) -> Record
     requires { LineKnown tif.now words.now k }
     ensures { result ≡ record_at tif.now words.now k }
 {
-    record_of(tif_line(tif, k), k + 1, verdict_of(words[k]))
+    record_of(tif_line(tif, k), k + 1, Verdict::from(words[k]))
 }
 
 // Fills the records of the first n lines, one a line.

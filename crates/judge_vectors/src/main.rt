@@ -10,7 +10,7 @@ use judge::{judge_words, lines_to_record};
 use std::io;
 use std::io::{Read, Write};
 use tif::{Side, tif_line};
-use verdicts::{Record, record_of, verdict_of};
+use verdicts::{Record, Verdict, record_of};
 
 // As many lines and debits as a case may bring, with room for some too many.
 const MOST: usize = 20;
@@ -96,7 +96,7 @@ fn print_line_judged(to: &mut impl Write, tif: &[u8], words: &[u64], k: usize) -
     let word = words[k];
     print_record(
         to,
-        record_of(tif_line(tif, k), k + 1, verdict_of(word)),
+        record_of(tif_line(tif, k), k + 1, Verdict::from(word)),
         word,
     )
 }

@@ -10,7 +10,12 @@ use Rattle.book.specs.Layout.{width}
 use Rattle.debits.specs.Taking.{taken, marks_then}
 use Rattle.verdicts.specs.Verdict.{word_of}
 use Rattle.verdicts.specs.declared.verdict.Verdict.{Verdict}
-use Rattle.judging.specs.Judging.{Judging, is_credit_file, repeated_at, cover_on, credit_of, passed_verdict, verdict_on, marks_next, marks_before, words_of}
+use Rattle.judging.specs.declared.line.Judging.{Judging as Lends}
+use Rattle.judging.specs.Judging.{Judging, judging, is_credit_file, repeated_at, cover_on, credit_of, passed_verdict, verdict_on, marks_next, marks_before, words_of}
+
+-- what the struct lends to judge by
+abbrev pub judged_by : Lends → Judging
+judged_by j = judging j.side j.sender.now j.book.now j.debits.now j.tif.now j.tst.now
 
 -- a sound book, a line for each mark, and n lines in the file
 pub record Given (book debits marks tif : List ℕ) (n : ℕ) : Type 0 where
@@ -18,6 +23,9 @@ pub record Given (book debits marks tif : List ℕ) (n : ℕ) : Type 0 where
   pub owed : length marks * line_width ≤ length debits
   pub few : length marks ≤ most_lines
   pub lined : line_place tif_layout n ≤ length tif
+
+abbrev pub GivenTo : Judging → List ℕ → ℕ → Type 0
+GivenTo j marks n = Given j.book j.debits marks j.tif n
 
 -- a credit judged that passed L1 to L5 and L9
 pub record CreditJudged (debits marks credit : List ℕ) (v : Verdict) (after : List ℕ) : Type 0 where

@@ -5,6 +5,5 @@ mod file;
 mod line;
 mod sums;
 
-pub use file::judge_lines;
-pub use line::judge_line;
+pub use line::Judging;
 pub use sums::{Sums, Tally, sums_of};

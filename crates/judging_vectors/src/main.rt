@@ -10,7 +10,7 @@ ghost use Rattle.judging_vectors.specs.Cases.{Ready};
 use book::check_book;
 use debits::debits_sound;
 use frames::{print_bytes, print_line_feed, print_marks, print_number, read_part, run_cases};
-use judging::{Sums, Tally, judge_lines, sums_of};
+use judging::{Judging, Sums, Tally, sums_of};
 use lines::field;
 use std::io;
 use std::io::{Read, Write};
@@ -71,16 +71,15 @@ fn run_lines(
     requires { Given book.now debits.now marks.old tif.now (length words.old) × Ready tif.now (length words.old) }
 {
     let none = [0u8; 1];
-    judge_lines(
-        side_of(tif),
+    let judging = Judging {
+        side: side_of(tif),
         sender,
         book,
         debits,
-        marks,
         tif,
-        &none[0..0],
-        words,
-    );
+        tst: &none[0..0],
+    };
+    judging.judge_lines(marks, words);
     print_words(to, words)?;
     print_stroke(to)?;
     print_marks(to, marks)?;

@@ -30,7 +30,7 @@ use Rattle.debits.specs.Form.{is_debit_type, debit_sound, debit_sound_at, lines_
 use Rattle.debits.specs.Taking.{agrees, unmarked, free_for, place_taken, taken}
 use Rattle.debits.specs.Credits.{marks_after}
 use Rattle.verdicts.specs.LineTests.{is_lawful_type, fields_in_form, is_from_sender, is_known_fuel, is_known_vehicle, plates_in_form, test_line}
-use Rattle.verdicts.specs.Tables.{code_is, is_listed, codes_of, tariff_classes, emissions, fuels}
+use Rattle.verdicts.specs.Tables.{is_listed, codes_of, tariff_classes, emissions, fuels}
 use Rattle.verdicts.specs.Verdict.{word_of}
 use Rattle.verdicts.specs.declared.verdict.Verdict.TheVariants.{Credits, NoDebit}
 use Rattle.judging.specs.Judging.{repeated_at, cover_on, verdict_on, reaches_at, verdict_at, word_at, words_of}
@@ -141,7 +141,7 @@ verdicts :
     (words_of (judging_of first_call) (0 ∷ 0 ∷ []) 1 ≡ word_of (Credits 1) ∷ [])
     × (words_of (judging_of second_call) (1 ∷ 0 ∷ []) 1 ≡ word_of (Credits 2) ∷ [])
     × (words_of (judging_of third_call) (1 ∷ 1 ∷ []) 1 ≡ word_of NoDebit ∷ [])
-unfolding words_of table_below word_at verdict_at verdict_on is_lent is_known_station first_of is_lawful_type is_listed code_is fields_in_form is_from_sender is_known_fuel is_known_vehicle plates_in_form plate_on_line nation_class codes_of tariff_classes emissions fuels repeated_at agree_on agree_across span_agrees cover_on cover_of cover_in covering_agreement agreement_of agreements taken place_taken free_for unmarked agrees marks_after reaches_at test_line every same first_difference differ_at some_below first_below all_below is_moment check_moment date_fault time_fault days_in is_leap all_digits number_of value_below big_endian all_of all_bytes byte_is is_of is_digit is_capital padded_with place_of padded_plate is_filled two_of is_small is_marked_letter is_plate_byte side_of line_of tif_with header_with footer_with row_of line_with join_below joined zeros blanks digits_of
+unfolding words_of table_below word_at verdict_at verdict_on is_lent is_known_station first_of is_lawful_type is_listed fields_in_form is_from_sender is_known_fuel is_known_vehicle plates_in_form plate_on_line nation_class codes_of tariff_classes emissions fuels repeated_at agree_on agree_across span_agrees cover_on cover_of cover_in covering_agreement agreement_of agreements taken place_taken free_for unmarked agrees marks_after reaches_at test_line every same first_difference differ_at some_below first_below all_below is_moment check_moment date_fault time_fault days_in is_leap all_digits number_of value_below big_endian all_of all_bytes byte_is is_of is_digit is_capital padded_with place_of padded_plate is_filled two_of is_small is_marked_letter is_plate_byte side_of line_of tif_with header_with footer_with row_of line_with join_below joined zeros blanks digits_of
 verdicts = (refl, refl, refl)
 
 -- ---- the answers: two acceptances with the same figures, then one refusal
@@ -155,7 +155,7 @@ credit_answers = (
 
 -- ---- the marks: each file that takes a debit marks that one
 pub credit_marks : (marks_of first_call ≡ 1 ∷ 0 ∷ []) × (marks_of second_call ≡ 1 ∷ 1 ∷ []) × (marks_of third_call ≡ 1 ∷ 1 ∷ [])
-unfolding marks_after taken place_taken free_for unmarked agrees agree_on agree_across span_agrees reaches_at is_lent is_known_station test_line first_of is_lawful_type is_listed code_is fields_in_form is_from_sender is_known_fuel is_known_vehicle plates_in_form plate_on_line nation_class codes_of tariff_classes emissions fuels every same first_difference differ_at some_below first_below all_below is_moment check_moment date_fault time_fault days_in is_leap all_digits number_of value_below all_of all_bytes byte_is is_of is_digit is_capital padded_with place_of padded_plate is_filled two_of is_small is_marked_letter is_plate_byte side_of line_of tif_with header_with footer_with row_of line_with join_below joined zeros blanks digits_of
+unfolding marks_after taken place_taken free_for unmarked agrees agree_on agree_across span_agrees reaches_at is_lent is_known_station test_line first_of is_lawful_type is_listed fields_in_form is_from_sender is_known_fuel is_known_vehicle plates_in_form plate_on_line nation_class codes_of tariff_classes emissions fuels every same first_difference differ_at some_below first_below all_below is_moment check_moment date_fault time_fault days_in is_leap all_digits number_of value_below all_of all_bytes byte_is is_of is_digit is_capital padded_with place_of padded_plate is_filled two_of is_small is_marked_letter is_plate_byte side_of line_of tif_with header_with footer_with row_of line_with join_below joined zeros blanks digits_of
 credit_marks = (
   marks_are first_call one_line (word_of (Credits 1) ∷ []) sound.0 (judged 1 (0 ∷ 0 ∷ []) counted.0) verdicts.0 credit_accepted credit_answers.0 ∙ refl,
   marks_are second_call one_line (word_of (Credits 2) ∷ []) sound.1 (judged 2 (1 ∷ 0 ∷ []) counted.1) verdicts.1 credit_accepted credit_answers.1 ∙ refl,

@@ -32,7 +32,7 @@ use Rattle.debits.specs.Form.{lines_sound, marks_sound, debits_sound}
 use Rattle.debits.specs.Taking.{place_taken, taken}
 use Rattle.debits.specs.Credits.{marks_after}
 use Rattle.verdicts.specs.LineTests.{is_lawful_type, fields_in_form, is_from_sender, is_known_fuel, is_known_vehicle, plates_in_form, test_line}
-use Rattle.verdicts.specs.Tables.{code_is, is_listed, codes_of, tariff_classes, emissions, fuels}
+use Rattle.verdicts.specs.Tables.{is_listed, codes_of, tariff_classes, emissions, fuels}
 use Rattle.verdicts.specs.Verdict.{word_of, acceptance_of, verdict_of}
 use Rattle.verdicts.specs.declared.record.Record.{Record}
 use Rattle.verdicts.specs.declared.verdict.Verdict.{Verdict}
@@ -146,7 +146,7 @@ module _ (room : ℕ) (out : List ℕ) where
   judged = file_by worked_name [] worked_tif (Some 3) (tif_framed 1 Debit worked_rows 17850 whole (omega arith)) ∙ counted
 
   verdicts : words_of (judging_of (worked_with room out)) [] 3 ≡ worked_words
-  unfolding words_of table_below word_at verdict_at verdict_on is_lent is_known_station first_of is_lawful_type is_listed code_is fields_in_form is_from_sender is_known_fuel is_known_vehicle plates_in_form plate_on_line nation_class codes_of tariff_classes emissions fuels repeated_at repeats_at agree_on agree_across span_agrees cover_on cover_of cover_in covering_agreement agreement_of pan_is has_cover covering_period covers_at period_covers leased_to in_time taken place_taken marks_after reaches_at test_line every same first_difference differ_at before some_below first_below all_below is_moment check_moment date_fault time_fault days_in is_leap all_digits number_of value_below big_endian all_of all_bytes byte_is is_of is_digit is_capital padded_with place_of padded_plate is_filled two_of is_small is_marked_letter is_plate_byte agreements pan_of body_head periods_at period_of body_end body_place side_of line_of tif_with header_with footer_with row_of line_with join_below joined zeros blanks digits_of
+  unfolding words_of table_below word_at verdict_at verdict_on is_lent is_known_station first_of is_lawful_type is_listed fields_in_form is_from_sender is_known_fuel is_known_vehicle plates_in_form plate_on_line nation_class codes_of tariff_classes emissions fuels repeated_at repeats_at agree_on agree_across span_agrees cover_on cover_of cover_in covering_agreement agreement_of pan_is has_cover covering_period covers_at period_covers leased_to in_time taken place_taken marks_after reaches_at test_line every same first_difference differ_at before some_below first_below all_below is_moment check_moment date_fault time_fault days_in is_leap all_digits number_of value_below big_endian all_of all_bytes byte_is is_of is_digit is_capital padded_with place_of padded_plate is_filled two_of is_small is_marked_letter is_plate_byte agreements pan_of body_head periods_at period_of body_end body_place side_of line_of tif_with header_with footer_with row_of line_with join_below joined zeros blanks digits_of
   verdicts = refl
 
   module _ (enough : 3 ≤ room) (long : 1136 ≤ length out) where

@@ -1,10 +1,12 @@
 -- The laws of texts made of pieces: how wide they are, how they are written one after the other, and that cutting gives them back. Assumes nothing.
-use Rattle.std.specs.Prelude.{◌≡◌, refl, List, [], ◌∷◌, ◌++◌, ℕ, ◌+◌, ◌≤◌, length, take, drop}
+use Rattle.std.specs.Prelude.{◌≡◌, refl, List, [], ◌∷◌, ◌++◌, ℕ, ◌+◌, ◌≤◌, ◌<◌, length, take, drop, get_or}
 use Rattle.std.proofs.Common.{sym, ap, ◌∙◌, append-nil, append_assoc, arith, length-append, take-append-drop, drop-drop}
+use Rattle.std.proofs.lemmas.List.{take_more, get_or-map, length-map}
 use Rattle.std.proofs.Math.Seq.{drop-append_seam, drop-length, take-append_seam}
 use Rattle.lines.specs.Splice.{Put}
 use Rattle.lines.specs.SpliceLaws.{put_more}
-use Rattle.tic_text.specs.Pieces.{joined, widths_of, total, cut_from}
+use denote.Ref.{Bor}
+use Rattle.tic_text.specs.Pieces.{joined, texts_of, widths_of, total, cut_from}
 
 pub joined_length : (ps : List (List ℕ)) → length (joined ps) ≡ total (widths_of ps)
 unfolding joined
@@ -35,6 +37,28 @@ put_pieces ps qs at mid r out out₁ out₂ h p q =
 pub put_piece : (ps : List (List ℕ)) (p : List ℕ) (at mid r : ℕ) (out out₁ out₂ : List ℕ) → at + total (widths_of ps) ≤ length out
     → Put (joined ps) at out mid out₁ → Put p mid out₁ r out₂ → Put (joined (ps ++ (p ∷ []))) at out r out₂
 put_piece ps p at mid r out out₁ out₂ h q s = put_pieces ps (p ∷ []) at mid r out out₁ out₂ h q (put_first p mid r out₁ out₂ s)
+
+-- ---- texts that are lent, written one after the other: with text k those before it
+module _ (ts : List (Bor (List ℕ))) (k : ℕ) (d : Bor (List ℕ)) (h : k < length ts) where
+  pub texts_more : joined (take (k + 1) (texts_of ts)) ≡ joined (take k (texts_of ts)) ++ (get_or ts k d).now
+  texts_more =
+      ap joined (take_more (texts_of ts) k d.now (omega (arith, length-map ts (λ (t : Bor (List ℕ)). t.now))))
+      ∙ joined_append (take k (texts_of ts)) (get_or (texts_of ts) k d.now ∷ [])
+      ∙ ap (λ (s : List ℕ). joined (take k (texts_of ts)) ++ s) (joined_one (get_or (texts_of ts) k d.now) ∙ get_or-map (λ (t : Bor (List ℕ)). t.now) ts k d d.now h)
+
+  -- there is room for it where there is for all
+  pub texts_fit : length (joined (take k (texts_of ts))) + length (get_or ts k d).now ≤ length (joined (texts_of ts))
+  texts_fit =
+      let front = take (k + 1) (texts_of ts) in
+      let rest = drop (k + 1) (texts_of ts) in
+      omega (
+        arith,
+        ap length texts_more,
+        length-append (joined (take k (texts_of ts))) (get_or ts k d).now,
+        ap (λ (ps : List (List ℕ)). length (joined ps)) (take-append-drop (k + 1) (texts_of ts)),
+        ap length (joined_append front rest),
+        length-append (joined front) (joined rest),
+      )
 
 -- ---- cut, and joined again
 -- a row is its pieces joined

@@ -1,10 +1,15 @@
 -- Texts made of pieces, one behind the other, and a row cut back into pieces. Assumes nothing.
-use Rattle.std.specs.Prelude.{List, [], ◌∷◌, ◌++◌, ℕ, ◌+◌, length, take, drop}
+use Rattle.std.specs.Prelude.{List, [], ◌∷◌, ◌++◌, ℕ, ◌+◌, length, map, take, drop}
+use denote.Ref.{Bor}
 
 -- the pieces, one behind the other
 unfoldable pub joined : List (List ℕ) → List ℕ
 joined [] = []
 joined (p ∷ ps) = p ++ joined ps
+
+-- the bytes of texts that are lent
+abbrev pub texts_of : List (Bor (List ℕ)) → List (List ℕ)
+texts_of texts = map (λ (t : Bor (List ℕ)). t.now) texts
 
 -- how wide each piece is
 abbrev pub widths_of : List (List ℕ) → List ℕ

@@ -103,11 +103,6 @@ tic_text v =
     ++ footer_text v.sums
 
 -- ---- what writing asks for: texts of their widths, and room
-pub record ActorRoom (receiver sender : List ℕ) (at : ℕ) (out : List ℕ) : Type 0 where
-  pub receiver_long : length receiver ≡ 6
-  pub sender_long : length sender ≡ 6
-  pub room : at + 13 ≤ length out
-
 pub record FrontRoom (receiver stem moment : List ℕ) (at width : ℕ) (out : List ℕ) : Type 0 where
   pub receiver_long : length receiver ≡ 6
   pub stem_long : length stem ≡ 18

@@ -2,45 +2,35 @@ ghost use Rattle.std.specs.Prelude.{◌≡◌, ◌+◌, ◌≤◌, length};
 ghost use Rattle.lines.specs.Splice.{Put};
 ghost use Rattle.tif.specs.Side.{side_text};
 ghost use Rattle.tic_text.specs.Pieces.{joined};
-ghost use Rattle.tic_text.specs.Text.{actor_pieces, sequence_pieces, front_pieces, count_pieces, filler_pieces, end_pieces, header_text, ActorRoom, FrontRoom};
+ghost use Rattle.tic_text.specs.Text.{front_pieces, count_pieces, filler_pieces, end_pieces, header_text, FrontRoom};
 
 use crate::columns::STEM_SENDER;
-use crate::text::{put_numbers, put_pair};
+use crate::text::{put_numbers, put_texts};
 use crate::values::{Received, TicHead};
 use lines::{field, put_bytes, put_digits, put_run};
 use tif::{NOK, Side, TIF_KIND, VERSION};
 
-// "0", the TIF's receiver and its sender.
-fn put_actors(out: &mut [u8], at: usize, receiver: &[u8], sender: &[u8]) -> usize
-    requires { ActorRoom receiver.now sender.now at out.old }
-    ensures { Put (joined (actor_pieces receiver.now sender.now)) at out.old result out.new }
-{
-    let mid = put_run(out, at, 1, b'0');
-    put_pair(out, mid, receiver, sender)
-}
-
 // The kind of a file that is a TIC.
 pub const TIC_KIND: [u8; 3] = *b"TIC";
-
-// The TIC's file sequence and that of the TIF received.
-fn put_sequences(out: &mut [u8], at: usize, stem: &[u8]) -> usize
-    requires { (length stem.now ≡ 18) × (at + 42 ≤ length out.old) }
-    ensures { Put (joined (sequence_pieces stem.now)) at out.old result out.new }
-{
-    let mid = put_pair(out, at, &TIC_KIND, stem);
-    put_pair(out, mid, &TIF_KIND, stem)
-}
 
 // The header up to the currency.
 fn put_front(out: &mut [u8], at: usize, received: Received) -> usize
     requires { FrontRoom received.receiver.now received.stem.now received.moment.now at 72 out.old }
     ensures { let r = received.entry in Put (joined (front_pieces r.receiver.now r.stem.now r.moment.now)) at out.old result out.new }
 {
-    let sender = field(received.stem, STEM_SENDER);
-    let mid = put_actors(out, at, received.receiver, sender);
-    let mid = put_sequences(out, mid, received.stem);
-    let mid = put_bytes(out, mid, received.moment);
-    put_bytes(out, mid, &NOK)
+    let Received {
+        receiver,
+        stem,
+        moment,
+    } = received;
+    let sender = field(stem, STEM_SENDER);
+    put_texts(
+        out,
+        at,
+        &[
+            b"0", receiver, sender, &TIC_KIND, stem, &TIF_KIND, stem, moment, &NOK,
+        ],
+    )
 }
 
 // CRE, DEB or "000".
@@ -66,9 +56,7 @@ fn put_fillers(out: &mut [u8], at: usize) -> usize
     requires { at + 58 ≤ length out.old }
     ensures { Put (joined filler_pieces) at out.old result out.new }
 {
-    let mid = put_bytes(out, at, &VERSION);
-    let mid = put_run(out, mid, 6, b' ');
-    put_run(out, mid, 46, b'0')
+    put_texts(out, at, &[&VERSION, &[b' '; 6], &[b'0'; 46]])
 }
 
 // The header from the version on.
@@ -78,7 +66,7 @@ fn put_end(out: &mut [u8], at: usize, acceptance: u64) -> usize
 {
     let mid = put_fillers(out, at);
     let mid = put_digits(out, mid, 2, acceptance);
-    put_run(out, mid, 1, 10)
+    put_run(out, mid, 1, b'\n')
 }
 
 // Writes a header: what it tells of the TIF received, and its numbers.

@@ -1,19 +1,22 @@
-ghost use Rattle.std.specs.Prelude.{[], ◌∷◌, ◌≡◌, ◌+◌, ◌≤◌, length};
+ghost use Rattle.std.specs.Prelude.{◌≡◌, ◌+◌, ◌≤◌, length};
 ghost use Rattle.lines.specs.Splice.{Put};
-ghost use Rattle.tic_text.specs.Pieces.{joined};
+ghost use Rattle.tic_text.specs.Pieces.{joined, texts_of};
 ghost use Rattle.tic_text.specs.Text.{number_pieces, listed_text, footer_text, ListedRoom};
 
 use crate::columns::COPIED;
 use crate::values::TicSums;
 use lines::{field, put_bytes, put_digits, put_run};
 
-// Two texts, one behind the other.
-pub fn put_pair(out: &mut [u8], at: usize, first: &[u8], second: &[u8]) -> usize
-    requires { at + length first.now + length second.now ≤ length out.old }
-    ensures { Put (joined (first.now ∷ second.now ∷ [])) at out.old result out.new }
+// Texts, one behind the other.
+pub fn put_texts(out: &mut [u8], at: usize, texts: &[&[u8]]) -> usize
+    requires { at + length (joined (texts_of texts.now)) ≤ length out.old }
+    ensures { Put (joined (texts_of texts.now)) at out.old result out.new }
 {
-    let mid = put_bytes(out, at, first);
-    put_bytes(out, mid, second)
+    let mut mid = at;
+    for text in texts {
+        mid = put_bytes(out, mid, text);
+    }
+    mid
 }
 
 // Two numbers of fifteen digits.
@@ -30,10 +33,7 @@ pub fn put_listed(out: &mut [u8], at: usize, line: &[u8], code: &[u8]) -> usize
     requires { ListedRoom line.now code.now at out.old }
     ensures { Put (listed_text line.now code.now) at out.old result out.new }
 {
-    let mid = put_run(out, at, 1, b'1');
-    let mid = put_bytes(out, mid, field(line, COPIED));
-    let mid = put_bytes(out, mid, code);
-    put_run(out, mid, 1, 10)
+    put_texts(out, at, &[b"1", field(line, COPIED), code, b"\n"])
 }
 
 // Writes a footer.
@@ -44,5 +44,5 @@ pub fn put_footer(out: &mut [u8], at: usize, sums: TicSums) -> usize
     let mid = put_run(out, at, 1, b'2');
     let mid = put_numbers(out, mid, sums.accepted.0, sums.rejected.0);
     let mid = put_run(out, mid, 96, b'0');
-    put_run(out, mid, 1, 10)
+    put_run(out, mid, 1, b'\n')
 }

@@ -10,4 +10,4 @@ pub use line_tests::{
     fields_in_form, is_from_sender, is_known_vehicle, is_lawful_type, plates_in_form, test_line,
 };
 pub use record::{Record, record_of};
-pub use verdict::{Verdict, verdict_of, word_of};
+pub use verdict::{Verdict, word_of};

@@ -1,12 +1,11 @@
-ghost use Rattle.std.specs.Prelude.{◌≡◌, length};
+ghost use Rattle.std.specs.Prelude.{◌≡◌, cond, length};
 ghost use Rattle.lines.specs.Columns.{field_of, Inside};
 ghost use Rattle.lines.specs.Number.{all_digits};
 ghost use Rattle.plate.specs.Plate.{plate_on_line};
 ghost use Rattle.passage.specs.Passage.{line_width};
-ghost use Rattle.verdicts.specs.Tables.{is_listed};
 ghost use Rattle.verdicts.specs.LineTests.{is_of_side, is_lawful_type, fields_in_form, is_from_sender, is_known_fuel, is_known_vehicle, plates_in_form, test_line};
 
-use crate::tables::{EMISSIONS, FUELS, TARIFF_CLASSES, TYPES, is_listed};
+use crate::tables::{is_emission, is_fuel, is_tariff_class, is_type};
 use crate::verdict::Verdict;
 use lines::{Class, Columns, all_of, field, is_same};
 use moment::is_moment;
@@ -29,14 +28,6 @@ fn has_digits(line: &[u8], c: Columns) -> bool
     all_of(Class::Digit, field(line, c))
 }
 
-// Whether a field is a code of the table.
-fn has_code(line: &[u8], c: Columns, table: &[u8]) -> bool
-    requires { Inside c (length line.now) }
-    ensures { result ≡ is_listed table.now (field_of c line.now) }
-{
-    is_listed(table, field(line, c))
-}
-
 // Whether a field is a plate in form, with its nation.
 fn has_plate(line: &[u8], plate: Columns, nation: Columns) -> bool
     requires { Inside plate (length line.now) × Inside nation (length line.now) }
@@ -51,12 +42,7 @@ fn is_of_side(side: Side, letter: u8) -> bool
 {
     match side {
         Side::Credit => letter == b'R',
-        Side::Debit => {
-            if letter == b'C' {
-                return true;
-            }
-            letter == b'D'
-        }
+        Side::Debit => matches!(letter, b'C' | b'D'),
         Side::Neither => false,
     }
 }
@@ -67,10 +53,7 @@ pub fn is_lawful_type(line: &[u8], side: Side) -> bool
     requires { length line.now ≡ line_width }
     ensures { result ≡ is_lawful_type side line.now }
 {
-    if !has_code(line, TYPE_OF_TRANSIT, &TYPES) {
-        return false;
-    }
-    is_of_side(side, line[1])
+    is_type(field(line, TYPE_OF_TRANSIT)) && is_of_side(side, line[1])
 }
 
 // L2: whether the exit moment is real, and station, lane, counter and fee without VAT are digits.
@@ -79,19 +62,11 @@ pub fn fields_in_form(line: &[u8]) -> bool
     requires { length line.now ≡ line_width }
     ensures { result ≡ fields_in_form line.now }
 {
-    if !is_moment(field(line, EXIT_MOMENT)) {
-        return false;
-    }
-    if !has_digits(line, STATION) {
-        return false;
-    }
-    if !has_digits(line, LANE) {
-        return false;
-    }
-    if !has_digits(line, COUNTER) {
-        return false;
-    }
-    has_digits(line, NET_FEE)
+    is_moment(field(line, EXIT_MOMENT))
+        && has_digits(line, STATION)
+        && has_digits(line, LANE)
+        && has_digits(line, COUNTER)
+        && has_digits(line, NET_FEE)
 }
 
 // L3: whether the exit actor is the sender.
@@ -104,32 +79,23 @@ pub fn is_from_sender(line: &[u8], sender: &[u8]) -> bool
 }
 
 // Whether a fuel of three bytes is a listed code followed by Y or N.
-#[tactic(auto, unfolding(crate::specs::LineTests::is_known_fuel, crate::specs::Tables::fuels, crate::specs::Tables::codes_of, lines::specs::Number::digits_of))]
+#[tactic(auto, using(lines::specs::Tests::tests), unfolding(crate::specs::LineTests::is_known_fuel))]
 fn is_known_fuel(fuel: &[u8]) -> bool
     requires { length fuel.now ≡ 3 }
     ensures { result ≡ is_known_fuel fuel.now }
 {
-    if !has_code(fuel, FUEL_CODE, &FUELS) {
-        return false;
-    }
-    if fuel[2] == b'Y' {
-        return true;
-    }
-    fuel[2] == b'N'
+    is_fuel(field(fuel, FUEL_CODE)) && (fuel[2] == b'Y' || fuel[2] == b'N')
 }
 
 // L4: whether tariff class, emission and fuel are known.
+#[tactic(auto, unfolding(crate::specs::LineTests::is_known_vehicle, tif::specs::Every::every))]
 pub fn is_known_vehicle(line: &[u8]) -> bool
     requires { length line.now ≡ line_width }
     ensures { result ≡ is_known_vehicle line.now }
 {
-    if !has_code(line, TARIFF_CLASS, &TARIFF_CLASSES) {
-        return false;
-    }
-    if !has_code(line, EMISSION, &EMISSIONS) {
-        return false;
-    }
-    is_known_fuel(field(line, FUEL))
+    is_tariff_class(field(line, TARIFF_CLASS))
+        && is_emission(field(line, EMISSION))
+        && is_known_fuel(field(line, FUEL))
 }
 
 // L5: whether both plates are in form, each with its nation.
@@ -138,36 +104,27 @@ pub fn plates_in_form(line: &[u8]) -> bool
     requires { length line.now ≡ line_width }
     ensures { result ≡ plates_in_form line.now }
 {
-    if !has_plate(line, DECLARED_PLATE, DECLARED_NATION) {
-        return false;
-    }
-    has_plate(line, DETECTED_PLATE, DETECTED_NATION)
+    has_plate(line, DECLARED_PLATE, DECLARED_NATION)
+        && has_plate(line, DETECTED_PLATE, DETECTED_NATION)
+}
+
+// Err with the verdict unless the test holds.
+fn unless(holds: bool, verdict: Verdict) -> Result<(), Verdict>
+    ensures { result ≡ cond holds (Ok tt) (Err verdict) }
+{
+    if holds { Ok(()) } else { Err(verdict) }
 }
 
 // Err is the first of L1, L2, L3, L9, L4 and L5 that a line fails; whether its station is known is told.
-#[tactic(auto, unfolding(crate::specs::LineTests::test_line, lines::specs::FirstOf::first_of))]
+#[tactic(auto, using(lines::specs::Tests::tests), unfolding(crate::specs::LineTests::test_line, lines::specs::FirstOf::first_of))]
 pub fn test_line(line: &[u8], side: Side, sender: &[u8], known: bool) -> Result<(), Verdict>
     requires { length line.now ≡ line_width }
     ensures { result ≡ test_line side sender.now known line.now }
 {
-    if !is_lawful_type(line, side) {
-        return Err(Verdict::WrongType);
-    }
-    if !fields_in_form(line) {
-        return Err(Verdict::FieldOutOfForm);
-    }
-    let sent = is_from_sender(line, sender);
-    if !sent {
-        return Err(Verdict::OtherActor);
-    }
-    if !known {
-        return Err(Verdict::UnknownStation);
-    }
-    if !is_known_vehicle(line) {
-        return Err(Verdict::UnknownVehicle);
-    }
-    if !plates_in_form(line) {
-        return Err(Verdict::PlateOutOfForm);
-    }
-    Ok(())
+    unless(is_lawful_type(line, side), Verdict::WrongType)?;
+    unless(fields_in_form(line), Verdict::FieldOutOfForm)?;
+    unless(is_from_sender(line, sender), Verdict::OtherActor)?;
+    unless(known, Verdict::UnknownStation)?;
+    unless(is_known_vehicle(line), Verdict::UnknownVehicle)?;
+    unless(plates_in_form(line), Verdict::PlateOutOfForm)
 }

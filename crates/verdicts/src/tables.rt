@@ -1,50 +1,61 @@
-ghost use Rattle.std.specs.Prelude.{◌≡◌, length};
-ghost use Rattle.lines.specs.Same.{same};
-ghost use Rattle.verdicts.specs.Tables.{is_listed};
+ghost use Rattle.std.specs.Prelude.{◌≡◌};
+ghost use Rattle.verdicts.specs.Tables.{is_listed, types, tariff_classes, emissions, fuels};
 
-use lines::{Layout, is_same, line_of};
-
-// A table holds codes of two bytes, one behind the other.
-const CODES: Layout = Layout {
-    header: 0,
-    line: 2,
-    footer: 0,
-};
+use lines::is_same;
 
 // Types of transit: Table 1.
-pub const TYPES: [u8; 16] = *b"C1D1C3D3C4C8D8R2";
+const TYPES: [[u8; 2]; 8] = [
+    *b"C1", *b"D1", *b"C3", *b"D3", *b"C4", *b"C8", *b"D8", *b"R2",
+];
 
-pub const TARIFF_CLASSES: [u8; 20] = *b"01021222313241516371";
+const TARIFF_CLASSES: [[u8; 2]; 10] = [
+    *b"01", *b"02", *b"12", *b"22", *b"31", *b"32", *b"41", *b"51", *b"63", *b"71",
+];
 
-pub const EMISSIONS: [u8; 18] = *b"000102030405060715";
+const EMISSIONS: [[u8; 2]; 9] = [
+    *b"00", *b"01", *b"02", *b"03", *b"04", *b"05", *b"06", *b"07", *b"15",
+];
 
-pub const FUELS: [u8; 32] = *b"01020304050609101112131415202122";
-
-// Whether a code of the table is this one. Codes of a table differ mostly in their second byte, so that it is looked at first.
-fn is_code(listed: &[u8], code: &[u8]) -> bool
-    requires { length listed.now ≡ 2 }
-    ensures { result ≡ same listed.now code.now }
-{
-    if code.len() == 2 {
-        if listed[1] != code[1] {
-            return false;
-        }
-    }
-    is_same(listed, code)
-}
+const FUELS: [[u8; 2]; 16] = [
+    *b"01", *b"02", *b"03", *b"04", *b"05", *b"06", *b"09", *b"10", *b"11", *b"12", *b"13", *b"14",
+    *b"15", *b"20", *b"21", *b"22",
+];
 
 // Whether a table has the code.
-#[tactic(auto, using(lines::specs::BelowLaws::some_zero, lines::specs::BelowLaws::some_more), unfolding(crate::specs::Tables::is_listed, crate::specs::Tables::code_is))]
-pub fn is_listed(table: &[u8], code: &[u8]) -> bool
+#[tactic(auto, unfolding(crate::specs::Tables::is_listed))]
+fn is_listed(table: &[[u8; 2]], code: &[u8]) -> bool
     ensures { result ≡ is_listed table.now code.now }
 {
-    let n = table.len() / 2;
-    let mut m = 0;
-    while m < n {
-        if is_code(line_of(CODES, table, m), code) {
-            return true;
-        }
-        m += 1;
-    }
-    false
+    table.iter().any(|listed| is_same(listed, code))
+}
+
+// Whether the code is a type of transit.
+pub fn is_type(code: &[u8]) -> bool
+    ensures { result ≡ is_listed types code.now }
+{
+    is_listed(&TYPES, code)
+}
+
+// Whether the code is a tariff class.
+#[tactic(auto, unfolding(crate::specs::Tables::tariff_classes, crate::specs::Tables::codes_of, lines::specs::Number::digits_of))]
+pub fn is_tariff_class(code: &[u8]) -> bool
+    ensures { result ≡ is_listed tariff_classes code.now }
+{
+    is_listed(&TARIFF_CLASSES, code)
+}
+
+// Whether the code is an emission class.
+#[tactic(auto, unfolding(crate::specs::Tables::emissions, crate::specs::Tables::codes_of, lines::specs::Number::digits_of))]
+pub fn is_emission(code: &[u8]) -> bool
+    ensures { result ≡ is_listed emissions code.now }
+{
+    is_listed(&EMISSIONS, code)
+}
+
+// Whether the code is a fuel.
+#[tactic(auto, unfolding(crate::specs::Tables::fuels, crate::specs::Tables::codes_of, lines::specs::Number::digits_of))]
+pub fn is_fuel(code: &[u8]) -> bool
+    ensures { result ≡ is_listed fuels code.now }
+{
+    is_listed(&FUELS, code)
 }

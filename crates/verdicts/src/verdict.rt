@@ -21,7 +21,7 @@ pub enum Verdict {
     UnknownStation,
 }
 
-// A verdict as one number.
+// A verdict as one number. A function, since a From cannot ask that what the verdict carries fits the word.
 pub fn word_of(v: Verdict) -> u64
     requires { InWord v }
     ensures { result ≡ word_of v }
@@ -47,32 +47,32 @@ fn acceptance_of(word: u64) -> Verdict
     ensures { result ≡ acceptance_of word }
 {
     let first = (word / 256 % 65536) as usize;
-    let second = (word / 16777216) as usize;
-    if second == 0 {
-        return Verdict::Credits(first);
+    match (word / 16777216) as usize {
+        0 => Verdict::Credits(first),
+        period => Verdict::Covered(Place {
+            agreement: first,
+            period,
+        }),
     }
-    let place = Place {
-        agreement: first,
-        period: second,
-    };
-    Verdict::Covered(place)
 }
 
 // The verdict that a word is.
-#[tactic(auto, unfolding(crate::specs::Verdict::verdict_of, lines::specs::FirstOf::first_of))]
-pub fn verdict_of(word: u64) -> Verdict
-    ensures { result ≡ verdict_of word }
-{
-    match word % 256 {
-        1 => Verdict::WrongType,
-        2 => Verdict::FieldOutOfForm,
-        3 => Verdict::OtherActor,
-        4 => Verdict::UnknownVehicle,
-        5 => Verdict::PlateOutOfForm,
-        6 => Verdict::RepeatedLine,
-        7 => Verdict::NotCovered,
-        8 => Verdict::NoDebit,
-        9 => Verdict::UnknownStation,
-        _ => acceptance_of(word),
+impl From<u64> for Verdict {
+    ghost from_gives = { λ word v. v ≡ verdict_of word };
+
+    #[tactic(auto, unfolding(crate::specs::Verdict::verdict_of, lines::specs::FirstOf::first_of))]
+    fn from(word: u64) -> Verdict {
+        match word % 256 {
+            1 => Verdict::WrongType,
+            2 => Verdict::FieldOutOfForm,
+            3 => Verdict::OtherActor,
+            4 => Verdict::UnknownVehicle,
+            5 => Verdict::PlateOutOfForm,
+            6 => Verdict::RepeatedLine,
+            7 => Verdict::NotCovered,
+            8 => Verdict::NoDebit,
+            9 => Verdict::UnknownStation,
+            _ => acceptance_of(word),
+        }
     }
 }

@@ -17,5 +17,5 @@ unfolding record_at
 returns c =
     let k = c.args.k in
     c.record_of.ensures
-    ∙ ap (λ (t : List ℕ). record_of t (k + 1) c.verdict_of.result) c.tif_line.ensures
-    ∙ ap (λ (w : Verdict). record_of (line_at c.args.tif.now k) (k + 1) w) c.verdict_of.ensures
+    ∙ ap (λ (t : List ℕ). record_of t (k + 1) c.from.result) c.tif_line.ensures
+    ∙ ap (λ (w : Verdict). record_of (line_at c.args.tif.now k) (k + 1) w) c.from.ensures

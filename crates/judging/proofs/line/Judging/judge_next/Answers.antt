@@ -1,7 +1,7 @@
 use mathlib.Core.Path.{ap, ◌∙◌}
 use Rattle.verdicts.specs.Verdict.{word_of}
 use Rattle.judging.proofs.WordLaws.{verdict_fits}
-use Rattle.judging.proofs.file.judge_next.Goals as goal
+use Rattle.judging.proofs.line.Judging.judge_next.Goals as goal
 
 pub word_of-requires : goal.word_of-requires
 word_of-requires c =
