@@ -5,7 +5,7 @@ use Rattle.std.proofs.Common.{ap, add-one, arith, length-drop, length-take, leng
 use Rattle.lines.specs.Columns.{cols}
 use Rattle.lines.specs.Rows.{line_place}
 use Rattle.lines.specs.RowsLaws.{line_ends, line_length}
-use Rattle.book.specs.Layout.{agreements, entry_layout, entry_end, entry_of, pan_of, body_head, period_layout, period_end, period_of, body_of, body_end, body_place}
+use Rattle.book.specs.Layout.{width, start_part, end_part, agreements, entry_layout, entry_end, entry_of, pan_of, body_head, period_layout, period_end, period_of, body_of, body_end, body_place}
 
 -- entry i of n ends where the bodies begin, or before
 pub entry_ends : (n i : ℕ) → i < n → entry_end i ≤ line_place entry_layout n
@@ -33,6 +33,13 @@ short_field from to line s e h = omega (arith, ap length e, length-take (to + 1 
 -- the length of a field that a line has
 pub cols_length : (from to : ℕ) (line : List ℕ) → 1 ≤ from → to ≤ length line → length (cols from to line) ≡ to + 1 - from
 cols_length from to line h k = length-take-le (to + 1 - from) (drop (from - 1) line) (omega (arith, length-drop (from - 1) line))
+
+-- the start and the end of a period of its whole width
+pub start_length : (period : List ℕ) → length period ≡ width → length (start_part period) ≡ 14
+start_length period h = cols_length 13 26 period (omega arith) (omega arith)
+
+pub end_length : (period : List ℕ) → length period ≡ width → length (end_part period) ≡ 14
+end_length period h = cols_length 27 40 period (omega arith) (omega arith)
 
 pub pan_length : (book : List ℕ) (i : ℕ) → entry_end i ≤ length book → length (pan_of book i) ≡ 19
 unfolding pan_of

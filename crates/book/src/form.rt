@@ -43,8 +43,8 @@ fn end_form(end: &[u8], last: bool) -> Result<(), MomentFault>
     check_moment(end)
 }
 
-// A period by itself; `last` says whether it is the last of its agreement.
-#[tactic(auto, using(lines::specs::Tests::tests, crate::specs::LayoutLaws::cols_length), unfolding(crate::specs::Form::period_form, lines::specs::FirstOf::first_of))]
+// A period by itself; `last` says whether it is the last of its agreement, as the definitions have it.
+#[tactic(auto, using(lines::specs::Tests::tests, crate::specs::LayoutLaws::start_length, crate::specs::LayoutLaws::end_length), unfolding(crate::specs::Form::period_form, lines::specs::FirstOf::first_of))]
 fn period_form(period: &[u8], last: bool) -> Result<(), PeriodFault>
     requires { length period.now ≡ width }
     ensures { result ≡ period_form last period.now }
@@ -61,7 +61,7 @@ fn period_form(period: &[u8], last: bool) -> Result<(), PeriodFault>
 }
 
 // Whether period j starts at or after the end before it.
-#[tactic(auto, using(lines::specs::Tests::tests, crate::specs::LayoutLaws::period_length, crate::specs::LayoutLaws::cols_length), unfolding(crate::specs::Form::follows_at))]
+#[tactic(auto, using(lines::specs::Tests::tests, crate::specs::LayoutLaws::period_length, crate::specs::LayoutLaws::start_length, crate::specs::LayoutLaws::end_length), unfolding(crate::specs::Form::follows_at))]
 fn follows(book: &[u8], at: usize, j: usize) -> bool
     requires { period_end width at j ≤ length book.now }
     ensures { result ≡ follows_at width book.now at j }

@@ -1,11 +1,12 @@
 -- The period that covers a passage (L7), on any bytes. The width `w` of a period is a parameter. Assumes nothing.
-use Rattle.std.specs.Prelude.{◌≡◌, Bool, true, false, not, ◌&&◌, ◌||◌, cond, List, ℕ, ◌+◌, ◌≤◌, ◌<◌, length, ltb, Option, Some, None}
-use Rattle.lines.specs.Below.{some_below, first_below}
+use Rattle.std.specs.Prelude.{◌≡◌, Bool, true, not, ◌&&◌, ◌||◌, cond, List, ℕ, ◌+◌, length, ltb, Option, Some, None}
+use Rattle.lines.specs.Below.{first_below}
 use Rattle.lines.specs.Class.{all_of}
 use Rattle.lines.specs.Same.{same, before}
 use Rattle.lines.specs.declared.class.Class.TheVariants.{Only}
 use Rattle.book.specs.Layout.{agreements, pan_of, periods_at, period_of, body_place, plate_part, nation_part, start_part, end_part}
 use Rattle.book.specs.Form.{book_sound}
+use Rattle.cover.specs.Rising.{FirstWithin}
 use Rattle.cover.specs.declared.cover.Place.{Place}
 
 -- what a passage asks of each period: whether a PAN names the agreement, the moment, and the detected plate with its nation
@@ -98,15 +99,5 @@ pub record Named (w : ℕ) (book pan : List ℕ) : Type 0 where
   pub full : length pan ≡ 19
 
 -- the first PAN that is at or after the one looked for is not below `low` and not above `high`
-pub record Between (book pan : List ℕ) (low high : ℕ) : Type 0 where
-  pub order : low ≤ high
-  pub within : high ≤ agreements book
-  pub below : some_below low (reached_at book pan) ≡ false
-  pub above : high < agreements book → reached_at book pan high ≡ true
-
--- one step of the halving
-pub record Halved (book pan : List ℕ) (low high low' high' : ℕ) : Type 0 where
-  pub between : Between book pan low' high'
-  pub least : low ≤ low'
-  pub most : high' ≤ high
-  pub closer : low + high' < low' + high
+abbrev pub Between : List ℕ → List ℕ → ℕ → ℕ → Type 0
+Between book pan low high = FirstWithin (agreements book) (reached_at book pan) low high

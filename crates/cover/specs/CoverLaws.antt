@@ -6,7 +6,7 @@ use Rattle.std.proofs.Math.Logic.{⊎_elim}
 use Rattle.std.proofs.lemmas.Bool.{false≢true}
 use Rattle.std.proofs.Math.Bool.{true, not, cond}
 use borrow.Author.Tests.{not-true, not-false}
-use Rattle.lines.specs.Below.{some_below, first_below}
+use Rattle.lines.specs.Below.{first_below}
 use Rattle.lines.specs.BelowLaws.{below_suc, some_each, first_before, first_hit, first_none, first_found}
 use Rattle.lines.specs.Same.{same, before}
 use Rattle.lines.specs.SameLaws.{same_is}
@@ -15,6 +15,7 @@ use Rattle.book.specs.LayoutLaws.{entry_ends, pan_length}
 use Rattle.book.specs.Form.{book_sound, Body, Whole}
 use Rattle.book.specs.FormLaws.{whole_is}
 use Rattle.cover.specs.OrderLaws.{either_side, before_trans, before_total, same_not_before, after_not_same}
+use Rattle.cover.specs.RisingLaws.{search_start, search_low, search_high, search_end}
 use Rattle.cover.specs.Cover.{Asked, has_cover, pan_is, agreement_of, covering_agreement, reached_at, Named, Between}
 
 module _ (w : ℕ) (book : List ℕ) (s : Whole w book) where
@@ -114,28 +115,15 @@ module _ (w : ℕ) (book pan : List ℕ) (n : Named w book pan) where
       each : (j : ℕ) → j < agreements book → pan_is book pan j ≡ false
       each j k = either_side j i (λ l. passed_over j (rw e at l)) (λ l. later j k l)
 
-  -- ---- halving
+  -- ---- halving, as of any test that stays true once it is
   pub halve_start : Between book pan 0 (agreements book)
-  unfolding some_below
-  halve_start = record { order = omega arith; within = omega arith; below = refl; above = λ h. absurd (omega arith) }
+  halve_start = search_start (agreements book) (reached_at book pan)
 
   pub halve_low : (low high middle : ℕ) → Between book pan low high → low ≤ middle → middle < high → reached_at book pan middle ≡ true → Between book pan low middle
-  halve_low low high middle b l h e = record { order = l; within = omega (arith, b.within); below = b.below; above = λ k. e }
+  halve_low = search_low (agreements book) (reached_at book pan)
 
   pub halve_high : (low high middle : ℕ) → Between book pan low high → low ≤ middle → middle < high → reached_at book pan middle ≡ false → Between book pan (middle + 1) high
-  halve_high low high middle b l h e =
-      record {
-        order = omega arith;
-        within = b.within;
-        below = some_each (reached_at book pan) (middle + 1) (λ i k. not_reached middle i (omega arith) (omega (arith, b.within)) e);
-        above = b.above;
-      }
+  halve_high = search_high (agreements book) (reached_at book pan) stays_reached
 
   pub halve_end : (low high : ℕ) → Between book pan low high → high ≤ low → low ≡ first_below (agreements book) (reached_at book pan)
-  halve_end low high b h =
-      let e : high ≡ low = omega (arith, b.order) in
-      either_side low (agreements book)
-      (λ l. sym (first_hit (reached_at book pan) (agreements book) low l b.below (rw e at (b.above (omega arith)))))
-      (λ l.
-      let f : low ≡ agreements book = omega (arith, b.within) in
-      f ∙ sym (first_none (reached_at book pan) (agreements book) (rw f at b.below)))
+  halve_end = search_end (agreements book) (reached_at book pan)

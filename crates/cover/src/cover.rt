@@ -26,7 +26,7 @@ pub struct Detected<'a> {
 }
 
 // Whether start ≤ moment < end.
-#[tactic(auto, unfolding(crate::specs::Cover::in_time))]
+#[tactic(auto, using(book::specs::LayoutLaws::start_length, book::specs::LayoutLaws::end_length), unfolding(crate::specs::Cover::in_time))]
 pub fn in_time(period: &[u8], moment: &[u8]) -> bool
     requires { (length period.now ≡ width) × (length moment.now ≡ 14) }
     ensures { result ≡ in_time moment.now period.now }

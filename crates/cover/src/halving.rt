@@ -11,6 +11,7 @@ pub fn first_true<F: Fn(usize) -> bool>(n: usize, holds: F) -> usize
 {
     let mut low = 0;
     let mut high = n;
+    // Both bounds move, so this goes over no range.
     while low < high {
         let middle = low + (high - low) / 2;
         if holds(middle) {

@@ -11,7 +11,7 @@ use crate::cover::{Detected, Place, body_place, in_time, is_leased};
 use crate::pans::agreement_with;
 use crate::rising::cover_in_time;
 use book::{NATION, PERIOD, PLATE, agreements_of, period_of, periods_at};
-use chains::{HASHES, Index, clear_ahead, enter_ahead, hash_two};
+use chains::{HASHES, Index, clear_ahead, enter_ahead, hash_two, next_ahead};
 use lines::{Class, all_of, field};
 
 // A period has a number: 64 for each agreement before its own, and its place there; so numbers go in book order. The links of an index lead
@@ -61,7 +61,7 @@ pub fn index_plates(book: &[u8], links: &mut [u16])
     }
 }
 
-// Whether the period covers by its plate and nation. Most periods of a chain have these, so the time is compared first.
+// Whether the period covers by its plate and nation. Most periods of a chain have these, so the time is compared first, and not the plate as where all of a book is searched.
 #[tactic(auto, using(lines::specs::BoolLaws::and_false_right, lines::specs::BoolLaws::and_one), unfolding(crate::specs::Cover::period_covers))]
 fn plate_covers(period: &[u8], detected: Detected) -> bool
     requires { (length period.now ≡ width) × (length detected.moment.now ≡ 14) }
@@ -76,13 +76,13 @@ fn first_leased(book: &[u8], links: &[u16], detected: Detected) -> Option<usize>
     ensures { result ≡ found_below (numbers_of book.now) (covers_number book.now (asked_by detected.entry)) }
 {
     let n = 64 * agreements_of(book);
-    let mut x = usize::from(links[hash_two(detected.plate, detected.nation)]);
-    while x < n {
+    let mut link = hash_two(detected.plate, detected.nation);
+    while let Some(x) = next_ahead(links, link, n) {
         let at = body_place(book, x / 64);
         if plate_covers(period_of(book, at, x % 64), detected) {
             return Some(x);
         }
-        x = usize::from(links[HASHES + slot_at(at, x % 64)]);
+        link = HASHES + slot_at(at, x % 64);
     }
     None
 }

@@ -34,7 +34,7 @@ pub fn agreement_of(book: &[u8], pan: &[u8]) -> Option<usize>
 }
 
 // Whether period j of the body at `at` starts after the moment.
-#[tactic(auto, using(book::specs::LayoutLaws::period_length), unfolding(crate::specs::Rising::after, crate::specs::Rising::start_of))]
+#[tactic(auto, using(book::specs::LayoutLaws::period_length, book::specs::LayoutLaws::start_length), unfolding(crate::specs::Rising::after, crate::specs::Rising::start_of))]
 fn starts_after(book: &[u8], at: usize, j: usize, moment: &[u8]) -> bool
     requires { (period_end width at j ≤ length book.now) × (length moment.now ≡ 14) }
     ensures { result ≡ after (start_of width book.now at) moment.now j }
@@ -58,7 +58,7 @@ fn period_in_time(book: &[u8], at: usize, moment: &[u8]) -> Option<usize>
     None
 }
 
-// The period of agreement i that covers where a PAN has named it: no plate is compared.
+// The period of agreement i that covers where a PAN has named it: no plate is compared. It is `cover_in` with another search; a parameter for the search would need a contract longer than these lines.
 pub fn cover_in_time(book: &[u8], i: usize, moment: &[u8]) -> Option<Place>
     requires { Ready width book.now moment.now × (i < agreements book.now) }
     ensures { (plate nation : List ℕ) → result ≡ cover_in width book.now (asked true moment.now plate nation) i }

@@ -58,12 +58,19 @@ time_fault s = first_of (time_faults s) (Ok tt)
 abbrev pub is_real : Checked → Bool
 is_real checked = is_ok checked
 
--- a date of eight bytes
-abbrev pub date_rows : List ℕ → List (Row Checked)
-date_rows s =
-    (not (eqb (length s) 8) ⇒ Err OtherLength)
+-- so many bytes, and each of them a digit
+abbrev pub digit_rows : ℕ → List ℕ → List (Row Checked)
+digit_rows width s =
+    (not (eqb (length s) width) ⇒ Err OtherLength)
     ∷ (not (all_digits s) ⇒ Err (Wrong Character))
     ∷ []
+
+unfoldable pub check_digits : ℕ → List ℕ → Checked
+check_digits width s = first_of (digit_rows width s) (Ok tt)
+
+-- a date of eight bytes
+abbrev pub date_rows : List ℕ → List (Row Checked)
+date_rows s = digit_rows 8 s
 
 unfoldable pub check_date : List ℕ → Checked
 check_date s = first_of (date_rows s) (date_fault s)

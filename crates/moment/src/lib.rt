@@ -1,12 +1,12 @@
 // Moments YYYYMMDDhhmmss and dates YYYYMMDD, as written.
 #![tactic(auto)]
 
-ghost use Rattle.std.specs.Prelude.{◌≡◌, true, ◌≤◌, ◌<◌, length};
+ghost use Rattle.std.specs.Prelude.{◌≡◌, true, cond, ◌≤◌, ◌<◌, length};
 ghost use Rattle.lines.specs.Columns.{field_of};
 ghost use Rattle.lines.specs.Number.{all_digits, number_of};
 ghost use Rattle.lines.specs.Same.{before};
 ghost use Rattle.moment.specs.Calendar.{is_leap, days_in};
-ghost use Rattle.moment.specs.Moment.{Numbered, date_fault, time_fault, check_date, check_moment, is_date, is_moment};
+ghost use Rattle.moment.specs.Moment.{Numbered, date_fault, time_fault, check_digits, check_date, check_moment, is_date, is_moment};
 
 use lines::{Class, Columns, all_of, field, number_of, word_at};
 
@@ -47,27 +47,11 @@ const MONTH_LENGTHS: [[u8; 12]; 2] = [
     [31, 29, 31, 30, 31, 30, 31, 31, 30, 31, 30, 31],
 ];
 
-// 1 in a leap year, 0 in an ordinary one.
 #[tactic(auto, using(lines::specs::Tests::tests), unfolding(crate::specs::Calendar::is_leap, lines::specs::FirstOf::first_of))]
-fn leap(year: u64) -> usize
-    ensures { result ≡ is_leap year }
+fn is_leap(year: u64) -> bool
+    ensures { is_leap year ≡ cond result 1 0 }
 {
-    if year % 4 != 0 {
-        return 0;
-    }
-    if year % 100 != 0 {
-        return 1;
-    }
-    if year % 400 != 0 {
-        return 0;
-    }
-    1
-}
-
-fn wide(x: u8) -> u64
-    ensures { result ≡ x }
-{
-    x as u64
+    year % 4 == 0 && (year % 100 != 0 || year % 400 == 0)
 }
 
 // How many days a month from 1 to 12 has.
@@ -75,7 +59,8 @@ fn days_in(year: u64, month: usize) -> u64
     requires { (1 ≤ month) × (month ≤ 12) }
     ensures { result ≡ days_in year month }
 {
-    wide(MONTH_LENGTHS[leap(year)][month - 1])
+    let lengths = MONTH_LENGTHS[usize::from(is_leap(year))];
+    u64::from(lengths[month - 1])
 }
 
 // The number that some columns of a text of digits write.
@@ -97,17 +82,11 @@ fn date_fault(s: &[u8]) -> Result<(), MomentFault>
         return Err(MomentFault::Wrong(MomentPart::Year));
     }
     let month = number_in(s, MONTH);
-    if month == 0 {
-        return Err(MomentFault::Wrong(MomentPart::Month));
-    }
-    if 12 < month {
+    if month == 0 || 12 < month {
         return Err(MomentFault::Wrong(MomentPart::Month));
     }
     let day = number_in(s, DAY);
-    if day == 0 {
-        return Err(MomentFault::Wrong(MomentPart::Day));
-    }
-    if days_in(year, month as usize) < day {
+    if day == 0 || days_in(year, month as usize) < day {
         return Err(MomentFault::Wrong(MomentPart::Day));
     }
     Ok(())
@@ -131,31 +110,35 @@ fn time_fault(s: &[u8]) -> Result<(), MomentFault>
     Ok(())
 }
 
-// Whether the bytes are a real date of eight, and what is wrong first.
-#[tactic(auto, using(lines::specs::Tests::tests), unfolding(crate::specs::Moment::check_date, lines::specs::FirstOf::first_of, lines::specs::Number::all_digits))]
-pub fn check_date(s: &[u8]) -> Result<(), MomentFault>
-    ensures { result ≡ check_date s.now }
+// Whether there are so many bytes, and all of them digits.
+#[tactic(auto, using(lines::specs::Tests::tests), unfolding(crate::specs::Moment::check_digits, lines::specs::FirstOf::first_of, lines::specs::Number::all_digits))]
+fn check_digits(s: &[u8], width: usize) -> Result<(), MomentFault>
+    ensures { result ≡ check_digits width s.now }
 {
-    if s.len() != 8 {
+    if s.len() != width {
         return Err(MomentFault::OtherLength);
     }
     if !all_of(Class::Digit, s) {
         return Err(MomentFault::Wrong(MomentPart::Character));
     }
+    Ok(())
+}
+
+// Whether the bytes are a real date of eight, and what is wrong first.
+#[tactic(auto, using(lines::specs::Tests::tests), unfolding(crate::specs::Moment::check_date, crate::specs::Moment::check_digits, lines::specs::FirstOf::first_of))]
+pub fn check_date(s: &[u8]) -> Result<(), MomentFault>
+    ensures { result ≡ check_date s.now }
+{
+    check_digits(s, 8)?;
     date_fault(s)
 }
 
 // Whether the bytes are a real moment of fourteen, and what is wrong first.
-#[tactic(auto, using(lines::specs::Tests::tests), unfolding(crate::specs::Moment::check_moment, lines::specs::FirstOf::first_of, lines::specs::Number::all_digits))]
+#[tactic(auto, using(lines::specs::Tests::tests), unfolding(crate::specs::Moment::check_moment, crate::specs::Moment::check_digits, lines::specs::FirstOf::first_of))]
 pub fn check_moment(s: &[u8]) -> Result<(), MomentFault>
     ensures { result ≡ check_moment s.now }
 {
-    if s.len() != 14 {
-        return Err(MomentFault::OtherLength);
-    }
-    if !all_of(Class::Digit, s) {
-        return Err(MomentFault::Wrong(MomentPart::Character));
-    }
+    check_digits(s, 14)?;
     date_fault(s)?;
     time_fault(s)
 }

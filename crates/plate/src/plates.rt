@@ -4,15 +4,11 @@ ghost use Rattle.plate.specs.Plate.{all_plate_bytes, padded_plate, is_filled, na
 use crate::set::is_plate_byte;
 use lines::{Class, all_of, place_of};
 
-// Whether every byte may stand in a plate. It does not stop at one that may not, so that many bytes are tested at a time.
+// Whether every byte may stand in a plate.
 fn all_plate_bytes(s: &[u8]) -> bool
     ensures { result ≡ all_plate_bytes s.now }
 {
-    let mut all = true;
-    for &b in s {
-        all &= is_plate_byte(b);
-    }
-    all
+    s.iter().all(|&b| is_plate_byte(b))
 }
 
 // Whether bytes of the set stand up to the first blank, and then blanks to the end.

@@ -7,6 +7,8 @@ use lib.ListN.{length, get_or}
 use Rattle.book.specs.Layout.{width, agreements, period_of}
 use Rattle.book.specs.LayoutLaws.{period_length}
 use Rattle.book.specs.FormLaws.{whole_is}
+use Rattle.std.proofs.Common.{subst}
+use Rattle.chains.specs.Ahead.{link_at}
 use Rattle.chains.specs.Hash.{hash_two}
 use Rattle.cover.specs.Cover.{asked, period_covers}
 use Rattle.cover.specs.Detected.{asked_by}
@@ -15,7 +17,7 @@ use Rattle.cover.specs.Plates.{numbers_of, body_for, numbered, period_for, slot_
 use Rattle.cover.specs.PlatesLaws.{number_at, number_covers, stands_in, ends_low}
 use Rattle.cover.specs.PlateChainLaws.{to_start, to_number, to_hit, to_more, to_past}
 use Rattle.cover.proofs.plates.first_leased.Goals as goal
-use Rattle.cover.proofs.plates.first_leased.Goals.{After-body_place-at, After-from-x-in-loop-x}
+use Rattle.cover.proofs.plates.first_leased.Goals.{After-body_place-at, After-plate_covers, After-slot_at-link, In-Some}
 
 pub agreements_of-n-requires : goal.agreements_of-n-requires
 agreements_of-n-requires c = (whole_is width _ c.requires.0.sound).headed.enough
@@ -23,12 +25,12 @@ agreements_of-n-requires c = (whole_is width _ c.requires.0.sound).headed.enough
 pub overflow_mul-n : goal.overflow_mul-n
 overflow_mul-n c = omega (arith, c.agreements_of-n.ensures, (whole_is width _ c.requires.0.sound).headed.few)
 
-pub bounds-links-hash_two : goal.bounds-links-hash_two
-bounds-links-hash_two c = omega (arith, c.hash_two.ensures.1, c.requires.1.long)
-
 pub loop-x-init : goal.loop-x-init
-loop-x-init c =
-    to_start _ _ _ _ _ c.requires.1 _ _ c.hash_two.ensures.0 c.from-x.ensures
+unfolding link_at
+loop-x-init c = (to_start _ _ _ _ _ c.requires.1 _ _ c.hash_two-link.ensures.0 refl, omega (arith, c.hash_two-link.ensures.1, c.requires.1.long))
+
+pub next_ahead-requires : goal.next_ahead-requires
+next_ahead-requires c = c.loop-x.invariant.1
 
 -- the numbers that the loop goes through
 bound : (book : List ℕ) (k x : ℕ) → k ≡ agreements book → x < 64 * k → x < numbers_of book
@@ -48,16 +50,24 @@ told book moment plate nation x at period t n a p e =
     let q = asked false moment plate nation in
     number_covers book q x n ∙ sym (e ∙ ap (period_covers q) (p ∙ ap (λ (i : ℕ). period_of width book i (x % 64)) a))
 
+-- the number to which the link leads is on the way
+way : (c : In-Some) → let a = c.args in WayTo a.book.now a.links.now (asked_by a.detected) (hash_two a.detected.plate.now a.detected.nation.now) c.in-Some.x
+way c =
+    let a = c.args in
+    subst (WayTo a.book.now a.links.now (asked_by a.detected) (hash_two a.detected.plate.now a.detected.nation.now)) (sym c.in-Some.ensures.0) c.loop-x.invariant.0
+
+-- and one of a period
+there : (c : In-Some) → numbered c.args.book.now c.in-Some.x ≡ true
+there c = number _ _ _ _ _ _ c.in-Some.x c.requires.1 (way c) c.agreements_of-n.ensures c.in-Some.ensures.1
+
 pub body_place-at-requires : goal.body_place-at-requires
 body_place-at-requires c =
-    let n = number _ _ _ _ _ _ c.loop-x.x c.requires.1 c.loop-x.invariant c.agreements_of-n.ensures (omega arith) in
-    let p = number_at c.args.book.now c.loop-x.x _ c.requires.0.sound n refl in
+    let p = number_at c.args.book.now c.in-Some.x _ c.requires.0.sound (there (goal.at.body_place-at-requires c).In-Some) refl in
     (p.sound, p.agreement)
 
 -- the period of that number
-period : (c : After-body_place-at) → PeriodAt c.args.book.now (c.loop-x.x / 64) c.body_place-at.result (c.loop-x.x % 64)
-period c =
-    number_at _ c.loop-x.x _ c.requires.0.sound (number _ _ _ _ _ _ c.loop-x.x c.requires.1 c.loop-x.invariant c.agreements_of-n.ensures (omega arith)) c.body_place-at.ensures
+period : (c : After-body_place-at) → PeriodAt c.args.book.now (c.in-Some.x / 64) c.body_place-at.result (c.in-Some.x % 64)
+period c = number_at _ c.in-Some.x _ c.requires.0.sound (there (goal.at.After-body_place-at c).In-Some) c.body_place-at.ensures
 
 pub period_of-requires : goal.period_of-requires
 period_of-requires c = stands_in _ _ _ _ (period (goal.at.period_of-requires c).After-body_place-at)
@@ -66,41 +76,38 @@ pub plate_covers-requires : goal.plate_covers-requires
 plate_covers-requires c =
     (ap length c.period_of.ensures ∙ period_length width _ _ _ (stands_in _ _ _ _ (period (goal.at.plate_covers-requires c).After-body_place-at)), c.requires.0.timed)
 
+-- whether it covers
+holds : (c : After-plate_covers) → covers_number c.args.book.now (asked_by c.args.detected) c.in-Some.x ≡ c.plate_covers.result
+holds c = told _ _ _ _ c.in-Some.x _ _ _ (there (goal.at.After-plate_covers c).In-Some) c.body_place-at.ensures c.period_of.ensures c.plate_covers.ensures
+
 pub returns-then-plate_covers : goal.returns-then-plate_covers
 returns-then-plate_covers c =
-    let n = number _ _ _ _ _ _ c.loop-x.x c.requires.1 c.loop-x.invariant c.agreements_of-n.ensures (omega arith) in
-    let l = bound _ _ c.loop-x.x c.agreements_of-n.ensures (omega arith) in
-    found_first _ _ c.loop-x.x l
-    (to_hit _ _ _ _ _ c.requires.1 c.loop-x.x c.loop-x.invariant l
-    (told _ _ _ _ c.loop-x.x _ _ _ n c.body_place-at.ensures c.period_of.ensures c.plate_covers.ensures ∙ c.if-plate_covers.true))
+    let l = bound _ _ c.in-Some.x c.agreements_of-n.ensures c.in-Some.ensures.1 in
+    found_first _ _ c.in-Some.x l
+    (to_hit _ _ _ _ _ c.requires.1 c.in-Some.x (way (goal.at.returns-then-plate_covers c).In-Some) l (holds (goal.at.returns-then-plate_covers c).After-plate_covers ∙ c.if-plate_covers.true))
 
-pub slot_at-requires : goal.slot_at-requires
-slot_at-requires c = ends_low _ _ _ _ (period (goal.at.slot_at-requires c).After-body_place-at)
-
-pub bounds-links-slot_at : goal.bounds-links-slot_at
-bounds-links-slot_at c = omega (arith, c.slot_at.ensures.1, c.requires.1.long)
+pub slot_at-link-requires : goal.slot_at-link-requires
+slot_at-link-requires c = ends_low _ _ _ _ (period (goal.at.slot_at-link-requires c).After-body_place-at)
 
 -- one turn: the next number, which is greater
-on : (c : After-from-x-in-loop-x) →
+on : (c : After-slot_at-link) →
     let a = c.args in
-    WayTo a.book.now a.links.now (asked_by a.detected) (hash_two a.detected.plate.now a.detected.nation.now) c.from-x-in-loop-x.result × (c.loop-x.x < c.from-x-in-loop-x.result)
+    WayTo a.book.now a.links.now (asked_by a.detected) (hash_two a.detected.plate.now a.detected.nation.now) (link_at a.links.now (4096 + c.slot_at-link.result)) × (c.in-Some.x < link_at a.links.now (4096 + c.slot_at-link.result))
+unfolding link_at
 on c =
     let a = c.args in
-    let n = number _ _ _ _ _ _ c.loop-x.x c.requires.1 c.loop-x.invariant c.agreements_of-n.ensures (omega arith) in
-    to_more _ _ _ _ _ c.requires.1 c.loop-x.x c.loop-x.invariant (bound _ _ c.loop-x.x c.agreements_of-n.ensures (omega arith))
-    (told _ _ _ _ c.loop-x.x _ _ _ n c.body_place-at.ensures c.period_of.ensures c.plate_covers.ensures ∙ c.if-plate_covers.false) _
-    (c.from-x-in-loop-x.ensures
-    ∙ ap (λ (s : ℕ). get_or a.links.now (4096 + s) 0) c.slot_at.ensures.0
-    ∙ ap (λ (at : ℕ). get_or a.links.now (4096 + slot_at at (c.loop-x.x % 64)) 0) c.body_place-at.ensures)
+    to_more _ _ _ _ _ c.requires.1 c.in-Some.x (way (goal.at.After-slot_at-link c).In-Some) (bound _ _ c.in-Some.x c.agreements_of-n.ensures c.in-Some.ensures.1)
+    (holds (goal.at.After-slot_at-link c).After-plate_covers ∙ c.if-plate_covers.false) _
+    (ap (λ (s : ℕ). get_or a.links.now (4096 + s) 0) c.slot_at-link.ensures.0 ∙ ap (λ (at : ℕ). get_or a.links.now (4096 + slot_at at (c.in-Some.x % 64)) 0) c.body_place-at.ensures)
 
 pub loop-x-smaller : goal.loop-x-smaller
-loop-x-smaller c =
-    omega (arith, bound _ _ c.loop-x.x c.agreements_of-n.ensures (omega arith), (on (goal.at.loop-x-smaller c).After-from-x-in-loop-x).1)
+loop-x-smaller c = omega (arith, c.in-Some.ensures.0, c.in-Some.ensures.1, (on (goal.at.loop-x-smaller c).After-slot_at-link).1)
 
 pub loop-x-preserved : goal.loop-x-preserved
-loop-x-preserved c = (on (goal.at.loop-x-preserved c).After-from-x-in-loop-x).0
+loop-x-preserved c = ((on (goal.at.loop-x-preserved c).After-slot_at-link).0, omega (arith, c.slot_at-link.ensures.1, c.requires.1.long))
 
 pub returns : goal.returns
 returns c =
     let f = ap (λ (i : ℕ). 64 * i) c.agreements_of-n.ensures in
-    found_past _ _ (to_past _ _ _ _ _ c.requires.1 c.loop-x.x c.loop-x.invariant (omega arith))
+    let past = c.in_default.ensures in
+    found_past _ _ (to_past _ _ _ _ _ c.requires.1 _ c.loop-x.invariant.0 (omega arith))
