@@ -1,4 +1,4 @@
-// Chains that rise, in one array of fixed size: a link for each hash, and behind these one for each number. A link leads to the next number of its hash, and past the last number of all where there is none.
+// Chains that rise, in one array of fixed size: a link for each hash, and behind these one for each number. A link leads to the next number of its hash, and past the last number of all where there is none. An Option<u16> would take twice the room.
 ghost use Rattle.std.specs.Prelude.{◌≡◌, ℕ, ◌+◌, ◌≤◌, ◌<◌, length, get_or, set, MatchOption};
 ghost use Rattle.chains.specs.Hash.{hashes};
 ghost use Rattle.chains.specs.Ahead.{link_at};

@@ -74,7 +74,7 @@ pub fn shown_line(tic: &[u8], listed: Listed) -> &[u8]
     }
 }
 
-// Its code: columns 810 and 811.
+// Its code: columns 810 and 811. Another place and another width than the line's: what both share is part_of.
 pub fn shown_code(tic: &[u8], listed: Listed) -> &[u8]
     ensures { result.now ≡ shown_code tic.now listed }
 {

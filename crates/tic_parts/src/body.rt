@@ -21,7 +21,7 @@ fn listed_formed(row: &[u8]) -> bool
         && all_of(Class::DigitOrCapital, field(row, CODE))
 }
 
-// Whether each of the n listed lines does (T4).
+// Whether each of the n listed lines does (T4). A for and no all: the test asks for whole rows, which all does not tell its closure.
 #[tactic(auto, using(lines::specs::BelowLaws::all_zero, lines::specs::BelowLaws::all_more, lines::specs::RowsLaws::line_ends, lines::specs::RowsLaws::line_length), unfolding(crate::specs::Reading::lines_formed, crate::specs::Reading::listed_formed_at))]
 pub fn lines_formed(tic: &[u8], n: usize) -> bool
     requires { file_length tic_layout n ≤ length tic.now }

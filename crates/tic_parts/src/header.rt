@@ -10,6 +10,8 @@ use tic_text::{
 };
 use tif::{NOK, TIF_KIND, VERSION, is_actor, is_file_stem, side_in};
 
+// Each of these takes a slice of 196 bytes and no type of its own: header_sound and head_of are public and take a slice, and for three private functions a type would say no more.
+
 // Whether the header begins as one and all its columns that name the TIF name one real TIF.
 #[tactic(auto, unfolding(crate::specs::Reading::names_one_tif, tif::specs::Every::every))]
 fn names_one_tif(h: &[u8]) -> bool

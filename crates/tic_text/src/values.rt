@@ -13,6 +13,7 @@ pub struct Received<'a> {
 // The numbers of a header.
 #[derive(Clone, Copy)]
 pub struct TicHead {
+    // A number and no enum: put_header writes any of two digits, and a narrower type would ask more of its callers.
     pub acceptance: u64,
     pub side: Side,
     pub accepted: Count,
