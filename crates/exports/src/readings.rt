@@ -9,21 +9,14 @@ use tic_text::TicValues;
 fn put_values(values: &mut [u64; 7], read: TicValues)
     ensures { values.new ≡ values_told read }
 {
-    let head = read.head;
-    let sums = read.sums;
-    let side = head.side;
-    let accepted = head.accepted;
-    let rejected = head.rejected;
-    let accepted_sum = sums.accepted;
-    let rejected_sum = sums.rejected;
     *values = [
-        head.acceptance,
-        side_number(side),
-        accepted.0,
-        rejected.0,
+        read.head.acceptance,
+        side_number(read.head.side),
+        read.head.accepted.0,
+        read.head.rejected.0,
         read.listed as u64,
-        accepted_sum.0,
-        rejected_sum.0,
+        read.sums.accepted.0,
+        read.sums.rejected.0,
     ];
 }
 

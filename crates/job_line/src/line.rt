@@ -27,6 +27,7 @@ fn put_head(line: &mut [u8], at: usize, s: Summary) -> usize
 }
 
 // Lines, accepted and refused.
+#[tactic(auto, unfolding(crate::specs::Line::counts_text))]
 fn put_counts(line: &mut [u8], at: usize, s: Summary) -> usize
     requires { at + 63 ≤ length line.old }
     ensures { Put (counts_text s) at line.old result line.new }
@@ -41,6 +42,7 @@ fn put_counts(line: &mut [u8], at: usize, s: Summary) -> usize
 }
 
 // Total, accepted amount and refused amount.
+#[tactic(auto, unfolding(crate::specs::Line::amounts_text))]
 fn put_amounts(line: &mut [u8], at: usize, s: Summary) -> usize
     requires { at + 63 ≤ length line.old }
     ensures { Put (amounts_text s) at line.old result line.new }

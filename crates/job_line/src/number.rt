@@ -19,6 +19,7 @@ fn digit_count(value: u64) -> usize
 }
 
 // Writes a number with no zeros in front.
+#[tactic(auto, using(crate::specs::LineLaws::count_le), unfolding(crate::specs::Line::decimal))]
 pub fn put_decimal(line: &mut [u8], at: usize, value: u64) -> usize
     requires { at + 20 ≤ length line.old }
     ensures { Put (decimal value) at line.old result line.new }
