@@ -64,6 +64,7 @@ fn first_covering(book: &[u8], at: usize, detected: Detected) -> Option<usize>
     (0..periods_at(book, at)).find(|&j| covers_at(book, at, j, detected))
 }
 
+// That the book is sound is asked by clauses, here and below, since callers lend it as bytes: a type would be built in each public function only to be taken apart.
 // Where the body of agreement i stands, as its entry says.
 pub fn body_place(book: &[u8], i: usize) -> usize
     requires { (book_sound width book.now ≡ true) × (i < agreements book.now) }
