@@ -8,7 +8,7 @@ ghost use Rattle.book.specs.Form.{book_sound};
 ghost use Rattle.book_vectors.specs.Held.{IsBook};
 
 use book::check_book;
-use cover::{Place, cover_at};
+use cover::{Detected, Place, cover_at};
 use frames::{print_bytes, print_line_feed, print_number, read_part, run_cases};
 use std::io;
 use std::io::{Read, Write};
@@ -56,7 +56,12 @@ fn run_question(from: &mut impl Read, to: &mut impl Write, book: &[u8]) -> io::R
         && read_field(from, &mut plate)?
         && read_field(from, &mut nation)?;
     if whole {
-        print_cover(to, cover_at(book, &pan, &moment, &plate, &nation))?;
+        let detected = Detected {
+            moment: &moment,
+            plate: &plate,
+            nation: &nation,
+        };
+        print_cover(to, cover_at(book, &pan, detected))?;
     }
     Ok(whole)
 }

@@ -13,6 +13,7 @@ pub fn read_full<R: Read>(from: &mut R, buf: &mut [u8]) -> io::Result<usize>
     ensures end { IfOk result (λ n. n < length buf.new → IsAtEnd (R.remaining from.new)) }
     ensures err { OnErr result (LosesAtMost (R.remaining from.old) (R.remaining from.new) (length buf.new)) }
 {
+    // No `for`: a read moves the place by as many bytes as it gives.
     let mut done = 0;
     while done < buf.len() {
         let n = from.read(&mut buf[done..])?;

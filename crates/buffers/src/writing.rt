@@ -11,6 +11,7 @@ pub fn write_full<W: Write>(to: &mut W, s: &[u8]) -> io::Result<()>
     ensures ok { OnOk result (Appends (W.contents to.old) (W.contents to.new) s.now) }
     ensures err { OnErr result (AppendsFront (W.contents to.old) (W.contents to.new) s.now) }
 {
+    // No `for`: a write moves the place by as many bytes as it takes.
     let mut done = 0;
     while done < s.len() {
         let n = to.write(&s[done..])?;

@@ -17,7 +17,7 @@ pub struct Place {
     pub period: usize,
 }
 
-// What a passage with a blank PAN asks of each period: its moment, and the detected plate with its nation.
+// What was detected of a passage: its exit moment, and the plate with its nation. With a PAN only the moment is asked of a period.
 #[derive(Clone, Copy)]
 pub struct Detected<'a> {
     pub moment: &'a [u8],
@@ -64,6 +64,7 @@ fn first_covering(book: &[u8], at: usize, detected: Detected) -> Option<usize>
     (0..periods_at(book, at)).find(|&j| covers_at(book, at, j, detected))
 }
 
+// That the book is sound is asked by clauses, here and below, since callers lend it as bytes: a type would be built in each public function only to be taken apart.
 // Where the body of agreement i stands, as its entry says.
 pub fn body_place(book: &[u8], i: usize) -> usize
     requires { (book_sound width book.now ≡ true) × (i < agreements book.now) }
@@ -98,26 +99,13 @@ fn first_cover(book: &[u8], detected: Detected) -> Option<Place>
     None
 }
 
-// What covers a passage with this PAN, exit moment, detected plate and nation: the first period in book order. A sound book is what the check has shown before.
-pub fn cover_at(
-    book: &[u8],
-    pan: &[u8],
-    moment: &[u8],
-    plate: &[u8],
-    nation: &[u8],
-) -> Option<Place>
-    requires { Ready width book.now moment.now × (length pan.now ≡ 19) }
-    ensures { result ≡ cover_of width book.now pan.now moment.now plate.now nation.now }
+// What covers a passage with this PAN: the first period in book order. A sound book is what the check has shown before.
+pub fn cover_at(book: &[u8], pan: &[u8], detected: Detected) -> Option<Place>
+    requires { Ready width book.now detected.moment.now × (length pan.now ≡ 19) }
+    ensures { result ≡ cover_of width book.now pan.now detected.entry.moment.now detected.entry.plate.now detected.entry.nation.now }
 {
     if all_of(Class::Only(b' '), pan) {
-        return first_cover(
-            book,
-            Detected {
-                moment,
-                plate,
-                nation,
-            },
-        );
+        return first_cover(book, detected);
     }
-    cover_in_time(book, agreement_of(book, pan)?, moment)
+    cover_in_time(book, agreement_of(book, pan)?, detected.moment)
 }

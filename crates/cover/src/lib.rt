@@ -7,6 +7,6 @@ mod pans;
 mod plates;
 mod rising;
 
-pub use cover::{Place, cover_at};
+pub use cover::{Detected, Place, cover_at};
 pub use pans::index_pans;
 pub use plates::{PLATE_LINKS, cover_by, index_plates};

@@ -98,28 +98,21 @@ fn place_of(x: usize) -> Place
     }
 }
 
-// What covers a passage with this PAN, exit moment, detected plate and nation: the first period in book order. The PANs are indexed by `index_pans`, the links made by `index_plates`.
+// What covers a passage with this PAN: the first period in book order. The PANs are indexed by `index_pans`, the links made by `index_plates`.
 pub fn cover_by(
     book: &[u8],
     pans: &Index,
     links: &[u16],
     pan: &[u8],
-    moment: &[u8],
-    plate: &[u8],
-    nation: &[u8],
+    detected: Detected,
 ) -> Option<Place>
-    requires ready { Ready width book.now moment.now × (length pan.now ≡ 19) × PlatesIndexed book.now links.now }
+    requires ready { Ready width book.now detected.moment.now × (length pan.now ≡ 19) × PlatesIndexed book.now links.now }
     requires pans_indexed { PansIndexed book.now pans.now }
-    ensures { result ≡ cover_of width book.now pan.now moment.now plate.now nation.now }
+    ensures { result ≡ cover_of width book.now pan.now detected.entry.moment.now detected.entry.plate.now detected.entry.nation.now }
 {
     if all_of(Class::Only(b' '), pan) {
-        let detected = Detected {
-            moment,
-            plate,
-            nation,
-        };
         let x = first_leased(book, links, detected)?;
         return Some(place_of(x));
     }
-    cover_in_time(book, agreement_with(book, pans, pan)?, moment)
+    cover_in_time(book, agreement_with(book, pans, pan)?, detected.moment)
 }

@@ -1,14 +1,17 @@
+ghost use Rattle.std.specs.Prelude.{◌≡◌, [], Some};
+
 use crate::input::read_kind;
 use std::io;
 use std::io::{Read, Write};
 
-// Runs each case by its kind, until a case says that no more is to be read or the input ends.
+// Runs each case by its kind, until a case says that no more is to be read or the input ends. Where the input is known to be empty, no case runs.
 pub fn run_cases<R: Read, W: Write, F: FnMut(&mut R, &mut W, u8) -> io::Result<bool>>(
     from: &mut R,
     to: &mut W,
     mut run_case: F,
 ) -> io::Result<()>
     requires { F.IsAlwaysCallable run_case }
+    ensures at_end { R.remaining from.old ≡ Some [] → W.contents to.new ≡ W.contents to.old }
 {
     // A proved loop has to end, and nothing says that an input does: no run uses up so many turns.
     for _ in 0..u64::MAX {

@@ -35,8 +35,8 @@ pub fn print_marks<W: Write>(to: &mut W, marks: &[u8]) -> io::Result<()>
     ensures ok { OnOk result (Appends (W.contents to.old) (W.contents to.new) (flat_map decimal marks.now)) }
     ensures err { OnErr result (AppendsFront (W.contents to.old) (W.contents to.new) (flat_map decimal marks.now)) }
 {
-    for mark in marks {
-        print_number(to, *mark as u64)?;
+    for &mark in marks {
+        print_number(to, mark as u64)?;
     }
     Ok(())
 }

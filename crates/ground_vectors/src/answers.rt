@@ -25,7 +25,7 @@ pub fn print_moment(to: &mut impl Write, answer: Result<(), MomentFault>) -> io:
 }
 
 fn print_truth(to: &mut impl Write, b: bool) -> io::Result<()> {
-    print_number(to, b as u64)
+    print_number(to, u64::from(b))
 }
 
 pub fn print_plate(to: &mut impl Write, plate: &[u8], nation: &[u8]) -> io::Result<()> {

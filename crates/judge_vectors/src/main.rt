@@ -9,7 +9,7 @@ use frames::{print_bytes, print_line_feed, print_marks, print_number, read_part,
 use judge::{judge_words, lines_to_record};
 use std::io;
 use std::io::{Read, Write};
-use tif::{Side, tif_line};
+use tif::tif_line;
 use verdicts::{Record, Verdict, record_of};
 
 // As many lines and debits as a case may bring, with room for some too many.
@@ -35,14 +35,6 @@ fn print_file_answer(to: &mut impl Write, answer: FileAnswer) -> io::Result<()> 
     print_bytes(to, b" ")
 }
 
-fn print_side(to: &mut impl Write, side: Side) -> io::Result<()> {
-    match side {
-        Side::Credit => print_bytes(to, b"CRE"),
-        Side::Debit => print_bytes(to, b"DEB"),
-        Side::Neither => print_bytes(to, b"000"),
-    }
-}
-
 fn print_counts(to: &mut impl Write, s: Summary) -> io::Result<()> {
     print_size(to, s.lines)?;
     print_size(to, s.accepted)?;
@@ -62,7 +54,7 @@ fn print_summary(to: &mut impl Write, s: Summary) -> io::Result<()> {
     let file = s.answer;
     let side = s.side;
     print_file_answer(to, file)?;
-    print_side(to, side)?;
+    print_bytes(to, side.text())?;
     print_counts(to, s)?;
     print_amounts(to, s)?;
     print_size(to, s.length)

@@ -1,3 +1,4 @@
 pub mod JudgedLaws
 pub mod MarksLaws
 pub mod WordLaws
+pub mod TallyLaws

@@ -1,5 +1,5 @@
 -- What was accepted and what was refused of a file: how many lines, and the sums of their amounts with VAT. Assumes nothing.
-use Rattle.std.specs.Prelude.{◌≡◌, Bool, true, false, not, cond, List, ℕ, ◌≤◌, ◌<◌, length, get_or, eqb}
+use Rattle.std.specs.Prelude.{◌≡◌, Bool, true, false, not, cond, List, ℕ, ◌+◌, ◌^◌, ◌≤◌, ◌<◌, length, get_or, eqb}
 use Rattle.lines.specs.Below.{sum_below}
 use Rattle.lines.specs.Number.{all_digits}
 use Rattle.lines.specs.Rows.{line_place, most_lines}
@@ -40,6 +40,28 @@ tally_of refused tif words = tally_with (count_of refused words) (total_of refus
 
 abbrev pub sums_of : List ℕ → List ℕ → Sums
 sums_of tif words = record { accepted = tally_of false tif words; refused = tally_of true tif words }
+
+-- a tally with one more line of this amount, where it is counted
+abbrev pub tally_plus : Bool → Tally → ℕ → Tally
+tally_plus counted t amount = tally_with (t.count.0 + cond counted 1 0) (t.amount.0 + cond counted amount 0)
+
+-- the sums with one more line, of this word and amount
+abbrev pub sums_plus : ℕ → Sums → ℕ → Sums
+sums_plus word sums amount =
+    record { accepted = tally_plus (eqb (word_number word) 0) sums.accepted amount; refused = tally_plus (not (eqb (word_number word) 0)) sums.refused amount }
+
+-- the sums of the first k lines
+abbrev pub sums_below : List ℕ → List ℕ → ℕ → Sums
+sums_below tif words k =
+    record {
+      accepted = tally_with (sum_below k (one_at false words)) (sum_below k (amount_of false tif words));
+      refused = tally_with (sum_below k (one_at true words)) (sum_below k (amount_of true tif words));
+    }
+
+-- a tally that can take one more line of this amount
+pub record Roomy (t : Tally) (amount : ℕ) : Type 0 where
+  pub counted : t.count.0 + 1 < 2 ^ 64
+  pub summed : t.amount.0 + amount < 2 ^ 64
 
 -- a word for each of not too many lines, whose amounts are digits
 pub record Worded (tif words : List ℕ) : Type 0 where

@@ -10,7 +10,7 @@ ghost use Rattle.judging.specs.Judging.{repeats_at, repeated_at, cover_on, debit
 ghost use Rattle.judging.specs.Steps.{judged_by, GivenTo, CreditJudged, PassedJudged, Judged};
 
 use chains::Index;
-use cover::{Place, cover_at};
+use cover::{Detected, Place, cover_at};
 use debits::take_debit;
 use lines::{agree_on, field};
 use passage::{DETECTED_NATION, DETECTED_PLATE, EXIT_MOMENT, PAN, REPEAT_SPANS};
@@ -50,13 +50,13 @@ fn cover_on(book: &[u8], line: &[u8]) -> Option<Place>
     requires { (book_sound width book.now ≡ true) × (length line.now ≡ line_width) }
     ensures { result ≡ cover_on book.now line.now }
 {
-    cover_at(
-        book,
-        field(line, PAN),
-        field(line, EXIT_MOMENT),
-        field(line, DETECTED_PLATE),
-        field(line, DETECTED_NATION),
-    )
+    let pan = field(line, PAN);
+    let detected = Detected {
+        moment: field(line, EXIT_MOMENT),
+        plate: field(line, DETECTED_PLATE),
+        nation: field(line, DETECTED_NATION),
+    };
+    cover_at(book, pan, detected)
 }
 
 impl Judging<'_> {

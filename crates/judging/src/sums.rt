@@ -1,5 +1,10 @@
-ghost use Rattle.std.specs.Prelude.{◌≡◌, ◌<◌, length};
-ghost use Rattle.judging.specs.Sums.{is_counted, one_at, amount_of, tally_of, sums_of, Worded};
+ghost use Rattle.std.specs.Prelude.{◌≡◌, true, ◌+◌, ◌≤◌, length};
+ghost use Rattle.lines.specs.Number.{all_digits};
+ghost use Rattle.lines.specs.Rows.{line_place};
+ghost use Rattle.passage.specs.Passage.{gross_amount};
+ghost use Rattle.tif.specs.Body.{line_at, amount_at};
+ghost use Rattle.tif.specs.Columns.{tif_layout};
+ghost use Rattle.judging.specs.Sums.{tally_plus, sums_plus, sums_of, Roomy, Worded};
 
 use lines::{Count, Gross, field, value_of};
 use passage::GROSS_AMOUNT;
@@ -19,56 +24,50 @@ pub struct Sums {
     pub refused: Tally,
 }
 
-// Whether line k is one of those to count: the refused ones, or the accepted ones.
-fn is_counted(words: &[u64], k: usize, refused: bool) -> bool
-    requires { k < length words.now }
-    ensures { result ≡ is_counted refused words.now k }
-{
-    if refused {
-        return words[k] % 256 != 0;
+impl Tally {
+    const NONE: Tally = Tally {
+        count: Count(0),
+        amount: Gross(0),
+    };
+
+    // With one more line, of this amount.
+    fn plus(self, amount: Gross) -> Tally
+        requires { Roomy self amount.0 }
+        ensures { result ≡ tally_plus true self amount.0 }
+    {
+        Tally {
+            count: Count(self.count.0 + 1),
+            amount: self.amount.plus(amount),
+        }
     }
-    words[k] % 256 == 0
 }
 
-fn one_at(words: &[u64], k: usize, refused: bool) -> u64
-    requires { k < length words.now }
-    ensures { result ≡ one_at refused words.now k }
-{
-    if is_counted(words, k, refused) {
-        return 1;
+impl Sums {
+    // With one more line, accepted where the number in its word is 0, else refused.
+    fn plus(self, word: u64, amount: Gross) -> Sums
+        requires { Roomy self.accepted amount.0 × Roomy self.refused amount.0 }
+        ensures { result ≡ sums_plus word self amount.0 }
+    {
+        if word % 256 == 0 {
+            Sums {
+                accepted: self.accepted.plus(amount),
+                ..self
+            }
+        } else {
+            Sums {
+                refused: self.refused.plus(amount),
+                ..self
+            }
+        }
     }
-    0
 }
 
-// The amount of line k where it is counted.
-fn amount_of(tif: &[u8], words: &[u64], k: usize, refused: bool) -> Gross
-    requires { Worded tif.now words.now × (k < length words.now) }
-    ensures { result.0 ≡ amount_of refused tif.now words.now k }
+// The amount of line k.
+fn amount_at(tif: &[u8], k: usize) -> Gross
+    requires { (line_place tif_layout (k + 1) ≤ length tif.now) × (all_digits (gross_amount (line_at tif.now k)) ≡ true) }
+    ensures { result.0 ≡ amount_at tif.now k }
 {
-    if is_counted(words, k, refused) {
-        return Gross(value_of(field(tif_line(tif, k), GROSS_AMOUNT)));
-    }
-    Gross(0)
-}
-
-// The tally of the refused lines, or of the accepted ones.
-fn tally_of(tif: &[u8], words: &[u64], refused: bool) -> Tally
-    requires { Worded tif.now words.now }
-    ensures { result ≡ tally_of refused tif.now words.now }
-{
-    let mut count: u64 = 0;
-    let mut amount = Gross(0);
-    let mut k = 0;
-    while k < words.len() {
-        count += one_at(words, k, refused);
-        amount = amount.plus(amount_of(tif, words, k, refused));
-        k += 1;
-    }
-    let counted = Count(count);
-    Tally {
-        count: counted,
-        amount,
-    }
+    Gross(value_of(field(tif_line(tif, k), GROSS_AMOUNT)))
 }
 
 // What was accepted and what was refused of a file whose lines have these words.
@@ -76,7 +75,12 @@ pub fn sums_of(tif: &[u8], words: &[u64]) -> Sums
     requires { Worded tif.now words.now }
     ensures { result ≡ sums_of tif.now words.now }
 {
-    let accepted = tally_of(tif, words, false);
-    let refused = tally_of(tif, words, true);
-    Sums { accepted, refused }
+    let mut sums = Sums {
+        accepted: Tally::NONE,
+        refused: Tally::NONE,
+    };
+    for (k, &word) in words.iter().enumerate() {
+        sums = sums.plus(word, amount_at(tif, k));
+    }
+    sums
 }

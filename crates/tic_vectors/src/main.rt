@@ -4,11 +4,8 @@
 use frames::{print_bytes, print_line_feed, print_number, read_part, run_cases};
 use std::io;
 use std::io::{Read, Write};
-use tic::{
-    ListedFault, ListedPlace, RewriteFault, listed_line, read_tic, rewrite_tic,
-};
+use tic::{ListedFault, ListedPlace, RewriteFault, listed_line, read_tic, rewrite_tic};
 use tic_text::{TicFault, TicValues};
-use tif::Side;
 
 // The longest TIC of a case, and the longest output.
 const LONGEST: usize = 8192;
@@ -18,12 +15,9 @@ fn print_fault(to: &mut impl Write, fault: TicFault) -> io::Result<()> {
     print_number(to, u64::from(u32::from(fault)))
 }
 
-fn print_side(to: &mut impl Write, side: Side) -> io::Result<()> {
-    match side {
-        Side::Credit => print_bytes(to, b" CRE "),
-        Side::Debit => print_bytes(to, b" DEB "),
-        Side::Neither => print_bytes(to, b" 000 "),
-    }
+fn print_after_space(to: &mut impl Write, number: u64) -> io::Result<()> {
+    print_bytes(to, b" ")?;
+    print_number(to, number)
 }
 
 fn print_values(to: &mut impl Write, values: TicValues) -> io::Result<()> {
@@ -32,16 +26,13 @@ fn print_values(to: &mut impl Write, values: TicValues) -> io::Result<()> {
     let side = head.side;
     print_bytes(to, b"0")?;
     print_number(to, head.acceptance)?;
-    print_side(to, side)?;
-    print_number(to, head.accepted.0)?;
     print_bytes(to, b" ")?;
-    print_number(to, head.rejected.0)?;
-    print_bytes(to, b" ")?;
-    print_number(to, values.listed as u64)?;
-    print_bytes(to, b" ")?;
-    print_number(to, sums.accepted.0)?;
-    print_bytes(to, b" ")?;
-    print_number(to, sums.rejected.0)
+    print_bytes(to, side.text())?;
+    print_after_space(to, head.accepted.0)?;
+    print_after_space(to, head.rejected.0)?;
+    print_after_space(to, values.listed as u64)?;
+    print_after_space(to, sums.accepted.0)?;
+    print_after_space(to, sums.rejected.0)
 }
 
 fn print_reading(to: &mut impl Write, tic: &[u8]) -> io::Result<()> {
@@ -53,8 +44,7 @@ fn print_reading(to: &mut impl Write, tic: &[u8]) -> io::Result<()> {
 
 fn print_place(to: &mut impl Write, place: ListedPlace) -> io::Result<()> {
     print_number(to, place.line as u64)?;
-    print_bytes(to, b" ")?;
-    print_number(to, place.code as u64)
+    print_after_space(to, place.code as u64)
 }
 
 fn print_listed(to: &mut impl Write, tic: &[u8], k: usize) -> io::Result<()> {

@@ -7,7 +7,7 @@ ghost use Rattle.tif.specs.Reader.{line_from};
 use crate::columns::TIF;
 use passage::WIDTH;
 
-// A reader keeps the file and its place in it: where a line begins.
+// A reader keeps the file and its place in it: where a line begins. The rules name this form, thin over a function with plain parameters.
 #[derive(Clone, Copy)]
 pub struct Reader<'a> {
     pub file: &'a [u8],

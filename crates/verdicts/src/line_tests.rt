@@ -84,7 +84,7 @@ fn is_known_fuel(fuel: &[u8]) -> bool
     requires { length fuel.now ≡ 3 }
     ensures { result ≡ is_known_fuel fuel.now }
 {
-    is_fuel(field(fuel, FUEL_CODE)) && (fuel[2] == b'Y' || fuel[2] == b'N')
+    is_fuel(field(fuel, FUEL_CODE)) && matches!(fuel[2], b'Y' | b'N')
 }
 
 // L4: whether tariff class, emission and fuel are known.

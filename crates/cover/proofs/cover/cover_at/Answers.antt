@@ -15,4 +15,4 @@ cover_in_time-requires c = (c.requires.0, (found_is _ _ _ c.in_ok-agreement_of.e
 pub returns : goal.returns
 returns c =
     let a = c.args in
-    c.cover_in_time.ensures a.plate.now a.nation.now ∙ named_some _ _ _ _ _ _ (sym c.all_of.ensures ∙ c.if-all_of.false) c.in_ok-agreement_of.ensures
+    c.cover_in_time.ensures a.detected.plate.now a.detected.nation.now ∙ named_some _ _ _ _ _ _ (sym c.all_of.ensures ∙ c.if-all_of.false) c.in_ok-agreement_of.ensures

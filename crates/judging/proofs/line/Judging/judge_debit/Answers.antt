@@ -3,7 +3,6 @@ use mathlib.Core.Path.{◌≡◌, sym, ap, ◌∙◌}
 use Rattle.tif.specs.Body.{line_at}
 use Rattle.cover.specs.declared.cover.Place.{Place}
 use Rattle.judging.specs.Judging.{repeated_at, cover_on, covered_by, debit_verdict}
-use Rattle.judging.specs.StepLaws.{line_whole}
 use Rattle.judging.proofs.line.Judging.judge_debit.Goals as goal
 use Rattle.judging.proofs.line.Judging.judge_debit.Goals.{After-cover_on}
 
