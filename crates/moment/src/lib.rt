@@ -93,7 +93,6 @@ fn date_fault(s: &[u8]) -> Result<(), MomentFault>
 }
 
 // The first part of the time that is wrong, in fourteen digits.
-#[tactic(auto, using(lines::specs::Tests::tests), unfolding(crate::specs::Moment::time_fault, lines::specs::FirstOf::first_of))]
 fn time_fault(s: &[u8]) -> Result<(), MomentFault>
     requires { (all_digits s.now ≡ true) × (14 ≤ length s.now) }
     ensures { result ≡ time_fault s.now }
