@@ -14,7 +14,7 @@ pub enum CallFault {
     Room,
 }
 
-// What becomes of the file: 00 to 05.
+// What becomes of the file: 00 to 05. No Result, since each of them, a refusal of the whole file too, has a summary and a TIC.
 #[derive(Clone, Copy)]
 pub enum FileAnswer {
     Accepted,

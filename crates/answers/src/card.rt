@@ -3,7 +3,7 @@ ghost use Rattle.answers.specs.Card.{verdicts_in_use, is_card, code_of, Coded};
 
 use lines::{Class, all_of};
 
-// How long a card is: two bytes for each of L1 to L8, and for L9 where a station table is lent.
+// How long a card is: two bytes for each of L1 to L8, and for L9 where a station table is lent. That one is lent is a value of the rule, and no switch.
 fn card_length(lent: bool) -> usize
     ensures { result ≡ verdicts_in_use lent * 2 }
 {

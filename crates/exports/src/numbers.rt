@@ -5,6 +5,7 @@ ghost use Rattle.exports.specs.Numbers.{side_number};
 use answers::CallFault;
 use tif::Side;
 
+// A side by its number in the C interface, which tif does not know; so no From, which would stand in its crate.
 pub fn side_number(side: Side) -> u64
     ensures { result ≡ side_number side }
 {

@@ -44,6 +44,7 @@ fn judge_bodies(inputs: Inputs, marks: &[u8]) -> Answer
     requires { length marks.now ≤ 65536 }
     ensures { result ≡ answer_of (call_with inputs.entry marks.now records_lent output_lent) }
 {
+    // Arrays as long as a job, since the program has no heap.
     let mut copy = [0u8; 65536];
     let mut out = [0u8; 65536];
     judge_copied(inputs, marks, &mut copy, &mut out)

@@ -38,7 +38,7 @@ pub fn is_job(job: &[u8]) -> bool
     job.len() <= MOST && job.len() >= 32 && body_place(job, 8) == job.len()
 }
 
-// Body k of a job, counted from 0.
+// Body k of a job, counted from 0. By number, since the form of a job names none: what each body is stands where a call is made of them.
 #[tactic(auto, using(crate::specs::FormLaws::not_long, crate::specs::FormLaws::not_short, crate::specs::FormLaws::body_within), unfolding(crate::specs::Form::body_of))]
 pub fn body_of(job: &[u8], k: usize) -> &[u8]
     requires { (is_job job.now ≡ true) × (k < 8) }

@@ -42,7 +42,7 @@ fn commit(inputs: Inputs, words: &[u64], s: Summary, mine: &[u8], marks: &mut [u
     requires { Committable inputs.name.now inputs.received.now inputs.card.now inputs.tif.now words.now s mine.now marks.old out.old }
     ensures { Committed inputs.entry.name.now inputs.entry.received.now inputs.entry.card.now inputs.entry.tif.now words.now s mine.now out.old marks.new out.new }
 {
-    put_bytes(marks, 0, mine);
+    marks.copy_from_slice(mine);
     put_tic(inputs, words, head_of(s), sums_told(s), out);
 }
 
@@ -60,6 +60,7 @@ fn judge_file(
 {
     let n = whole.lines;
     let m = marks.len();
+    // An array of the most that there are, since a call has no heap.
     let mut mine = [0u8; 9999];
     judge_all(inputs, marks, &mut mine, n, words);
     let s = summarize(inputs.tif, &words[0..n], whole);

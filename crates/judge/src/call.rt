@@ -10,6 +10,7 @@ use verdicts::Record;
 pub fn judge(inputs: Inputs, marks: &mut [u8], records: &mut [Record], out: &mut [u8]) -> Answer
     ensures { Judged (call_with inputs.entry marks.old (length records.old) out.old) records.old result marks.new records.new out.new }
 {
+    // An array, since a call has no heap.
     let mut words = [0u64; 9999];
     let answer = try_call(inputs, marks, records.len(), &mut words, out);
     let n = lines_to_record(answer);

@@ -13,6 +13,7 @@ pub fn judge_words(
 ) -> Answer
     ensures { WordsJudged (call_with inputs.entry marks.old room out.old) words.old result marks.new words.new out.new }
 {
+    // An array, since a call has no heap.
     let mut tried = [0u64; 9999];
     let answer = try_call(inputs, marks, room, &mut tried, out);
     let n = lines_to_record(answer);
