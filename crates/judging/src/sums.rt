@@ -37,7 +37,7 @@ impl Tally {
     {
         Tally {
             count: Count(self.count.0 + 1),
-            amount: self.amount.plus(amount),
+            amount: self.amount + amount,
         }
     }
 }

@@ -5,7 +5,7 @@ ghost use Rattle.lines.specs.Word.{Decides};
 
 use crate::word::word_at;
 
-// The first place where texts of one length differ.
+// The first place where texts of one length differ. That they are of one length is asked by a clause, here and below, since they are lent as two slices.
 fn first_difference(a: &[u8], b: &[u8]) -> Option<usize>
     requires { length a.now ≡ length b.now }
     ensures { result ≡ found_below (length a.now) (differ_at a.now b.now) }
