@@ -37,7 +37,7 @@ pub fn agreements_of(book: &[u8]) -> usize
     big_endian(field(book, AGREEMENTS))
 }
 
-// The PAN of agreement i, counted from 0.
+// The PAN of agreement i, counted from 0. That its entry stands in the book is asked by a clause, here and below, since these read a book whose form is not known yet.
 pub fn pan_of(book: &[u8], i: usize) -> &[u8]
     requires { entry_end i ≤ length book.now }
     ensures { result.now ≡ pan_of book.now i }

@@ -7,6 +7,7 @@ use lines::{Columns, field};
 // How many hashes there are.
 pub const HASHES: usize = 4096;
 
+// A hash on its way is below 2^32: a clause, here and below, and no type, since none leaves this file so.
 fn mix(h: usize, b: usize) -> usize
     requires { (h < 4294967296) × (b < 256) }
     ensures { (result ≡ mixed h b) × (result < 4294967296) }

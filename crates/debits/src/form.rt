@@ -32,7 +32,7 @@ fn debit_sound(line: &[u8]) -> bool
         && read_digits(field(line, GROSS_AMOUNT)).is_some()
 }
 
-// Whether each of n lines can be an open debit.
+// Whether each of n lines can be an open debit. No `all` over a range: its closure would have to show how long each line is.
 #[tactic(auto, using(lines::specs::BelowLaws::all_zero, lines::specs::BelowLaws::all_more, crate::specs::FormLaws::debit_ends, crate::specs::FormLaws::debit_length), unfolding(crate::specs::Form::lines_sound, crate::specs::Form::debit_sound_at))]
 fn lines_sound(debits: &[u8], n: usize) -> bool
     requires { n * line_width ≤ length debits.now }

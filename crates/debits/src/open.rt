@@ -43,7 +43,7 @@ pub fn index_open(debits: &[u8], marks: &[u8], links: &mut [u16])
     }
 }
 
-// The link that leads to the first open debit that agrees with the credit; past the last where there is none.
+// The link that leads to the first open debit that agrees with the credit; past the last where there is none. A place and no Option, since there is a link in either case.
 fn link_to(debits: &[u8], marks: &[u8], credit: &[u8], links: &[u16]) -> usize
     requires { Lent debits.now marks.now credit.now × Opened debits.now marks.now links.now }
     ensures { LeadsTo debits.now marks.now credit.now links.now result }

@@ -7,6 +7,7 @@ use lines::{agree_on, line_of};
 use passage::CREDIT_SPANS;
 
 // Whether debit j is unmarked and agrees with the credit. The mark comes first: it is one byte, the columns are seventy.
+// What the lengths of debits and marks are is asked by a clause, here and below, since marks are lent for writing and debits for reading.
 #[tactic(auto, unfolding(crate::specs::Taking::free_for, crate::specs::Taking::unmarked, crate::specs::Taking::agrees))]
 pub fn free_for(debits: &[u8], marks: &[u8], credit: &[u8], j: usize) -> bool
     requires { Lent debits.now marks.now credit.now × (j < length marks.now) }

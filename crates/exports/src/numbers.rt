@@ -6,6 +6,7 @@ use answers::CallFault;
 use tif::Side;
 
 // A side by its number in the C interface, which tif does not know; so no From, which would stand in its crate.
+// A side in the numbers of the C interface, which are not those of the TIC; so no From beside the type.
 pub fn side_number(side: Side) -> u64
     ensures { result ≡ side_number side }
 {

@@ -3,6 +3,7 @@ use moment::{MomentFault, MomentPart};
 use std::io;
 use std::io::Write;
 
+// The numbers that this program prints for the parts; nothing else knows them, so no From beside the type.
 fn part_number(part: MomentPart) -> u64 {
     match part {
         MomentPart::Character => 2,

@@ -7,7 +7,7 @@ use answers::{Answer, CallFault, Summary};
 use lines::{put_digits, put_run};
 use tic_text::put_side;
 
-// "E" joined to its number.
+// "E" joined to its number. The room for it is asked by a clause, here and below, since each part is written at its own place of any slice.
 fn put_fault(line: &mut [u8], at: usize, fault: CallFault) -> usize
     requires { at + 132 ≤ length line.old }
     ensures { Put (fault_text fault) at line.old result line.new }

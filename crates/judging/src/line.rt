@@ -59,6 +59,7 @@ fn cover_on(book: &[u8], line: &[u8]) -> Option<Place>
     cover_at(book, pan, detected)
 }
 
+// What the checks of the call and of the file have shown is asked by a clause of each step, since it speaks of the marks, which change from line to line.
 impl Judging<'_> {
     // The verdict on a debit that passes L1 to L5 and L9.
     #[tactic(auto, using(crate::specs::StepLaws::line_whole))]

@@ -31,31 +31,31 @@ impl Tally {
     };
 
     // With one more line, of this amount.
-    fn plus(self, amount: Gross) -> Tally
+    fn with_line(self, amount: Gross) -> Tally
         requires { Roomy self amount.0 }
         ensures { result ≡ tally_plus true self amount.0 }
     {
         Tally {
             count: Count(self.count.0 + 1),
-            amount: self.amount.plus(amount),
+            amount: self.amount + amount,
         }
     }
 }
 
 impl Sums {
     // With one more line, accepted where the number in its word is 0, else refused.
-    fn plus(self, word: u64, amount: Gross) -> Sums
+    fn with_line(self, word: u64, amount: Gross) -> Sums
         requires { Roomy self.accepted amount.0 × Roomy self.refused amount.0 }
         ensures { result ≡ sums_plus word self amount.0 }
     {
         if word % 256 == 0 {
             Sums {
-                accepted: self.accepted.plus(amount),
+                accepted: self.accepted.with_line(amount),
                 ..self
             }
         } else {
             Sums {
-                refused: self.refused.plus(amount),
+                refused: self.refused.with_line(amount),
                 ..self
             }
         }
@@ -80,7 +80,7 @@ pub fn sums_of(tif: &[u8], words: &[u64]) -> Sums
         refused: Tally::NONE,
     };
     for (k, &word) in words.iter().enumerate() {
-        sums = sums.plus(word, amount_at(tif, k));
+        sums = sums.with_line(word, amount_at(tif, k));
     }
     sums
 }

@@ -1,6 +1,6 @@
 -- The first of the numbers 0 to n - 1 of which a test holds, as an Option. Assumes nothing.
-use Rattle.std.specs.Prelude.{◌≡◌, refl, Bool, true, false, cond, ℕ, ◌<◌, Option, Some, None}
-use Rattle.std.proofs.Common.{sym, ap, arith}
+use Rattle.std.specs.Prelude.{◌≡◌, refl, Bool, true, false, cond, ℕ, ◌<◌, Option, Some, None, eqb, is_none}
+use Rattle.std.proofs.Common.{sym, ap, arith, eq-eqb, ne_eqb}
 use Rattle.lines.specs.Below.{some_below, first_below}
 use Rattle.lines.specs.BelowLaws.{some_each, some_hit, first_hit, first_none, first_is, first_found, first_before}
 
@@ -46,3 +46,12 @@ module _ (n : ℕ) (p : ℕ → Bool) where
       go : (t : Bool) → some_below n p ≡ t → ◌≡◌ {A = Option ℕ} None (cond t (Some (first_below n p)) None) → n ≡ first_below n p
       go true s f = let z : ◌≡◌ {A = ℕ} 0 1 = cc in absurd (omega arith)
       go false s f = sym (first_none p n s)
+
+  -- nothing is found where the first place is past the last
+  pub found_nothing : is_none (found_below n p) ≡ eqb (first_below n p) n
+  unfolding found_below
+  found_nothing = go (some_below n p) refl
+    where
+      go : (t : Bool) → some_below n p ≡ t → is_none (cond t (Some (first_below n p)) None) ≡ eqb (first_below n p) n
+      go true s = sym (ne_eqb _ _ (λ e. omega (arith, (first_is p n s).0, e)))
+      go false s = sym (eq-eqb _ _ (first_none p n s))

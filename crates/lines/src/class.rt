@@ -63,7 +63,7 @@ pub fn all_of(class: Class, s: &[u8]) -> bool
     all
 }
 
-// The first place with a byte of the class, and the length where there is none.
+// The first place with a byte of the class, and the length where there is none. The length and no Option, since callers cut the text there in either case.
 pub fn place_of(class: Class, s: &[u8]) -> usize
     ensures { result ≡ place_of class s.now }
 {

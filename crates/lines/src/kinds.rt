@@ -1,5 +1,7 @@
 ghost use Rattle.std.specs.Prelude.{◌≡◌, ◌+◌, ◌^◌, ◌<◌};
 
+use std::ops::Add;
+
 // A fee without VAT, in 1/100 NOK. Nothing is added to it.
 #[derive(Clone, Copy, PartialEq, Eq)]
 pub struct Net(pub u64);
@@ -12,11 +14,14 @@ pub struct Gross(pub u64);
 #[derive(Clone, Copy, PartialEq, Eq)]
 pub struct Count(pub u64);
 
-impl Gross {
-    pub fn plus(self, other: Gross) -> Gross
-        requires { self.0 + other.0 < 2 ^ 64 }
-        ensures { result.0 ≡ self.0 + other.0 }
-    {
+impl Add for Gross {
+    type Output = Gross;
+
+    ghost can_add = { λ p q. p.0 + q.0 < 2 ^ 64 };
+
+    ghost add_gives = { λ p q r. r.0 ≡ p.0 + q.0 };
+
+    fn add(self, other: Gross) -> Gross {
         Gross(self.0 + other.0)
     }
 }

@@ -15,7 +15,7 @@ fn value<const BASE: u64, const NOUGHT: u8>(s: &[u8]) -> u64
     v
 }
 
-// The number of a field of at most 15 digits, where it is digits.
+// The number of a field of at most 15 digits, where it is digits. The length is asked by a clause, here and below, since a field is a part of any line.
 #[tactic(auto, unfolding(crate::specs::Number::read_digits, crate::specs::Number::all_digits))]
 pub fn read_digits(s: &[u8]) -> Option<u64>
     requires { length s.now ≤ 15 }

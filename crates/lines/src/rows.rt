@@ -29,7 +29,7 @@ pub fn line_of(layout: Layout, file: &[u8], k: usize) -> &[u8]
     &file[at..at + layout.line]
 }
 
-// The footer of a file of n lines.
+// The footer of a file of n lines. How long the file is at least is asked by a clause, here and below, since a file may be longer.
 pub fn footer_of(layout: Layout, file: &[u8], n: usize) -> &[u8]
     requires { file_length layout n ≤ length file.now }
     ensures { result.now ≡ footer_of layout file.now n }

@@ -1,20 +1,16 @@
 ghost use Rattle.std.specs.Prelude.{◌≡◌, ◌≤◌, length};
-ghost use Rattle.lines.specs.Same.{first_difference, same, before};
+ghost use Rattle.lines.specs.Found.{found_below};
+ghost use Rattle.lines.specs.Same.{differ_at, same, before};
 ghost use Rattle.lines.specs.Word.{Decides};
 
 use crate::word::word_at;
 
-// The first place where the texts differ, and their length where they do not.
-fn first_difference(a: &[u8], b: &[u8]) -> usize
+// The first place where texts of one length differ. That they are of one length is asked by a clause, here and below, since they are lent as two slices.
+fn first_difference(a: &[u8], b: &[u8]) -> Option<usize>
     requires { length a.now ≡ length b.now }
-    ensures { result ≡ first_difference a.now b.now }
+    ensures { result ≡ found_below (length a.now) (differ_at a.now b.now) }
 {
-    for i in 0..a.len() {
-        if a[i] != b[i] {
-            return i;
-        }
-    }
-    a.len()
+    (0..a.len()).find(|&i| a[i] != b[i])
 }
 
 // The place of the words that decide how texts of one length compare: the first that differ, else the last.
@@ -40,7 +36,7 @@ pub fn is_same(a: &[u8], b: &[u8]) -> bool
         return false;
     }
     if a.len() < 8 {
-        return first_difference(a, b) == a.len();
+        return first_difference(a, b).is_none();
     }
     let at = deciding_word(a, b);
     word_at(a, at) == word_at(b, at)
@@ -53,8 +49,10 @@ pub fn is_before(a: &[u8], b: &[u8]) -> bool
     ensures { result ≡ before a.now b.now }
 {
     if a.len() < 8 {
-        let i = first_difference(a, b);
-        return i < a.len() && a[i] < b[i];
+        return match first_difference(a, b) {
+            Some(i) => a[i] < b[i],
+            None => false,
+        };
     }
     let at = deciding_word(a, b);
     word_at(a, at) < word_at(b, at)

@@ -41,7 +41,7 @@ const MINUTE: Columns = Columns { from: 11, to: 12 };
 
 const SECOND: Columns = Columns { from: 13, to: 14 };
 
-// The days of each month, in an ordinary year and in a leap year.
+// The days of each month, in an ordinary year and in a leap year: two rows of twelve, the form that the rules name.
 const MONTH_LENGTHS: [[u8; 12]; 2] = [
     [31, 28, 31, 30, 31, 30, 31, 31, 30, 31, 30, 31],
     [31, 29, 31, 30, 31, 30, 31, 31, 30, 31, 30, 31],

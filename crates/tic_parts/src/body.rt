@@ -51,7 +51,7 @@ pub fn listed_sum(tic: &[u8], n: usize) -> Gross
 {
     let mut sum = Gross(0);
     for k in 0..n {
-        sum = sum.plus(row_amount(line_of(TIC, tic, k)));
+        sum = sum + row_amount(line_of(TIC, tic, k));
     }
     sum
 }

@@ -1,6 +1,6 @@
 use lines::{Columns, Layout};
 
-// A TIC: header, listed lines and footer, line feeds included.
+// A TIC: header, listed lines and footer, line feeds included. A column of the same name in a TIF stands elsewhere.
 pub const TIC: Layout = Layout {
     header: 196,
     line: 812,

@@ -28,7 +28,7 @@ pub fn body_amount(tif: &[u8], n: usize) -> Option<Gross>
 {
     let mut sum = Gross(0);
     for k in 0..n {
-        sum = sum.plus(line_amount(tif_line(tif, k))?);
+        sum = sum + line_amount(tif_line(tif, k))?;
     }
     Some(sum)
 }

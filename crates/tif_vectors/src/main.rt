@@ -13,10 +13,7 @@ fn print_whole(to: &mut impl Write, whole: Whole) -> io::Result<()> {
     print_number(to, whole.total.0)
 }
 
-fn print_acceptance(
-    to: &mut impl Write,
-    acceptance: Result<Whole, FileFault>,
-) -> io::Result<()> {
+fn print_acceptance(to: &mut impl Write, acceptance: Result<Whole, FileFault>) -> io::Result<()> {
     match acceptance {
         Ok(whole) => print_whole(to, whole),
         Err(FileFault::AlreadyReceived) => print_bytes(to, b"02"),

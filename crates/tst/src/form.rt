@@ -42,7 +42,7 @@ fn station_formed(row: &[u8]) -> bool
         && all_of(Class::Digit, field(row, LANE))
 }
 
-// Whether each of m lines is of the right form.
+// Whether each of m lines is of the right form. No `all` over a range: its closure would have to show how long each line is.
 #[tactic(auto, using(lines::specs::BelowLaws::all_zero, lines::specs::BelowLaws::all_more, crate::specs::FormLaws::row_ends), unfolding(crate::specs::Form::stations_formed, crate::specs::Form::station_formed_at))]
 fn stations_formed(tst: &[u8], m: usize) -> bool
     requires { Counted tst_layout (length tst.now) m }

@@ -17,7 +17,7 @@ fn station_count(tst: &[u8]) -> usize
     (tst.len() - (TST.header + TST.footer)) / TST.line
 }
 
-// The lines of a table, by the triples that no two of them share.
+// The lines of a table, by the triples that no two of them share. Of another file than the entries of a book in `cover`, so no function for both.
 fn stations(tst: &[u8]) -> Rows<'_>
     requires { file_length tst_layout 0 ≤ length tst.now }
     ensures { (result.layout ≡ tst_layout) × (result.file ≡ tst.entry) × (result.spans.now ≡ station_spans) × (result.count ≡ stations_of tst.now) }

@@ -47,7 +47,7 @@ fn is_of_side(side: Side, letter: u8) -> bool
     }
 }
 
-// L1: whether the type is listed, and one of the file's side.
+// L1: whether the type is listed, and one of the file's side. That a line has its width is asked by a clause, here and below, since lines are lent as parts of a file and by any caller.
 #[tactic(auto, unfolding(crate::specs::LineTests::is_lawful_type))]
 pub fn is_lawful_type(line: &[u8], side: Side) -> bool
     requires { length line.now ≡ line_width }
