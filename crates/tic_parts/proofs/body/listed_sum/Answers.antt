@@ -15,9 +15,9 @@ row_amount-requires c =
     let ends = line_ends tic_layout a.n k (omega arith) in
     rw c.line_of.ensures (line_length tic_layout a.tic.now k (omega (arith, c.requires.within, ends)), (lined_at a.tic.now a.n c.requires k (omega arith)).amount)
 
-pub plus-sum-requires : goal.plus-sum-requires
+pub add-sum-requires : goal.add-sum-requires
 unfolding listed_amount
-plus-sum-requires c =
+add-sum-requires c =
     let a = c.args in
     let k = c.loop-k.k in
     let e : c.row_amount.result.0 ≡ listed_amount a.tic.now k = rw c.line_of.ensures at c.row_amount.ensures in
