@@ -116,33 +116,16 @@ fn print_output(to: &mut impl Write, out: &[u8]) -> io::Result<()> {
 
 fn run_call(
     to: &mut impl Write,
-    name: &[u8],
-    received: &[u8],
-    card: &[u8],
-    names: &[u8],
-    room: usize,
-    book: &[u8],
-    debits: &[u8],
+    inputs: Inputs<'_>,
     marks: &mut [u8],
-    tif: &[u8],
-    tst: &[u8],
+    room: usize,
     out: &mut [u8],
 ) -> io::Result<()> {
     let mut words = [0u64; 9999];
-    let inputs = Inputs {
-        name,
-        received,
-        card,
-        names,
-        book,
-        debits,
-        tif,
-        tst,
-    };
     let answer = judge_words(inputs, marks, room, &mut words, out);
     print_answer(to, answer)?;
     print_marks_between(to, marks)?;
-    print_lines_judged(to, tif, &words, lines_to_record(answer))?;
+    print_lines_judged(to, inputs.tif, &words, lines_to_record(answer))?;
     print_output(to, out)
 }
 
@@ -150,10 +133,7 @@ fn run_call(
 fn run_lent(
     from: &mut impl Read,
     to: &mut impl Write,
-    name: &[u8],
-    received: &[u8],
-    card: &[u8],
-    names: &[u8],
+    inputs: Inputs<'_>,
     room: usize,
 ) -> io::Result<bool> {
     let mut book = [0u8; 4096];
@@ -171,20 +151,14 @@ fn run_lent(
     let Some(f) = read_part(from, &mut out)? else {
         return Ok(false);
     };
-    run_call(
-        to,
-        name,
-        received,
-        card,
-        names,
-        room,
-        &book[0..a],
-        &debits[0..b],
-        &mut marks[0..c],
-        &tif[0..d],
-        &tst[0..e],
-        &mut out[0..f],
-    )?;
+    let whole = Inputs {
+        book: &book[0..a],
+        debits: &debits[0..b],
+        tif: &tif[0..d],
+        tst: &tst[0..e],
+        ..inputs
+    };
+    run_call(to, whole, &mut marks[0..c], room, &mut out[0..f])?;
     Ok(true)
 }
 
@@ -203,15 +177,17 @@ fn run_parts(from: &mut impl Read, to: &mut impl Write) -> io::Result<bool> {
     let Some(room) = read_part(from, &mut records)? else {
         return Ok(false);
     };
-    run_lent(
-        from,
-        to,
-        &name[0..a],
-        &received[0..b],
-        &card[0..c],
-        &names[0..d],
-        room,
-    )
+    let inputs = Inputs {
+        name: &name[0..a],
+        received: &received[0..b],
+        card: &card[0..c],
+        names: &names[0..d],
+        book: &[],
+        debits: &[],
+        tif: &[],
+        tst: &[],
+    };
+    run_lent(from, to, inputs, room)
 }
 
 fn run_case(from: &mut impl Read, to: &mut impl Write, kind: u8) -> io::Result<bool> {

@@ -19,6 +19,16 @@ use tif::{NAME_SENDER, acceptance_of, side_of};
 // As many lines as a file may bring.
 const MOST: usize = 16;
 
+// What a case brings for reading; its marks are lent for writing.
+#[derive(Clone, Copy)]
+struct Case<'a> {
+    // The name of the TIF.
+    name: &'a [u8],
+    book: &'a [u8],
+    debits: &'a [u8],
+    tif: &'a [u8],
+}
+
 fn print_word(to: &mut impl Write, word: u64) -> io::Result<()> {
     print_number(to, word)?;
     print_bytes(to, b" ")
@@ -61,75 +71,53 @@ fn print_sums(to: &mut impl Write, sums: Sums) -> io::Result<()> {
 // Judges as many lines of the file as there are words, with no station table lent.
 fn run_lines(
     to: &mut impl Write,
-    sender: &[u8],
-    book: &[u8],
-    debits: &[u8],
+    case: Case<'_>,
     marks: &mut [u8],
-    tif: &[u8],
     words: &mut [u64],
 ) -> io::Result<()>
-    requires { Given book.now debits.now marks.old tif.now (length words.old) × Ready tif.now (length words.old) }
+    requires { (length case.name.now ≡ 35) × Given case.book.now case.debits.now marks.old case.tif.now (length words.old) × Ready case.tif.now (length words.old) }
 {
-    let none = [0u8; 1];
     let judging = Judging {
-        side: side_of(tif),
-        sender,
-        book,
-        debits,
-        tif,
-        tst: &none[0..0],
+        side: side_of(case.tif),
+        sender: field(case.name, NAME_SENDER),
+        book: case.book,
+        debits: case.debits,
+        tif: case.tif,
+        tst: &[],
     };
     judging.judge_lines(marks, words);
     print_words(to, words)?;
     print_stroke(to)?;
     print_marks(to, marks)?;
-    print_sums(to, sums_of(tif, words))
+    print_sums(to, sums_of(case.tif, words))
 }
 
 // Judges the file, once its book is known to be sound; false where something else is not, or the lines are too many.
 fn run_sound(
     to: &mut impl Write,
-    name: &[u8],
-    book: &[u8],
-    debits: &[u8],
+    case: Case<'_>,
     marks: &mut [u8],
-    tif: &[u8],
     words: &mut [u64],
 ) -> io::Result<bool>
-    requires { book_sound width book.now ≡ true }
+    requires { book_sound width case.book.now ≡ true }
 {
-    if name.len() != 35 || !debits_sound(debits, marks) {
+    if case.name.len() != 35 || !debits_sound(case.debits, marks) {
         return Ok(false);
     }
-    let Ok(whole) = acceptance_of(name, &name[0..0], tif) else {
+    let Ok(whole) = acceptance_of(case.name, &[], case.tif) else {
         return Ok(false);
     };
     let n = whole.lines;
     if n > words.len() {
         return Ok(false);
     }
-    run_lines(
-        to,
-        field(name, NAME_SENDER),
-        book,
-        debits,
-        marks,
-        tif,
-        &mut words[0..n],
-    )?;
+    run_lines(to, case, marks, &mut words[0..n])?;
     Ok(true)
 }
 
-fn run_file(
-    to: &mut impl Write,
-    name: &[u8],
-    book: &[u8],
-    debits: &[u8],
-    marks: &mut [u8],
-    tif: &[u8],
-) -> io::Result<bool> {
+fn run_file(to: &mut impl Write, case: Case<'_>, marks: &mut [u8]) -> io::Result<bool> {
     let mut words = [0u64; MOST];
-    Ok(check_book(book) && run_sound(to, name, book, debits, marks, tif, &mut words)?)
+    Ok(check_book(case.book) && run_sound(to, case, marks, &mut words)?)
 }
 
 // A case of a name, a book, debits, marks and a TIF; false where it breaks off or a part is too long.
@@ -147,14 +135,13 @@ fn run_parts(from: &mut impl Read, to: &mut impl Write) -> io::Result<bool> {
     let Some(e) = read_part(from, &mut tif)? else {
         return Ok(false);
     };
-    run_file(
-        to,
-        &name[0..a],
-        &book[0..b],
-        &debits[0..c],
-        &mut marks[0..d],
-        &tif[0..e],
-    )
+    let case = Case {
+        name: &name[0..a],
+        book: &book[0..b],
+        debits: &debits[0..c],
+        tif: &tif[0..e],
+    };
+    run_file(to, case, &mut marks[0..d])
 }
 
 fn run_case(from: &mut impl Read, to: &mut impl Write, kind: u8) -> io::Result<bool> {

@@ -7,4 +7,4 @@ run_lines-requires g c =
     let n = c.in-Ok.whole.lines in
     let ready = ready_is _ _ _ c.in-Ok.whole (sym c.acceptance_of.ensures ∙ c.in-Ok.is) in
     let front = front_is c.args.words.now n (omega arith) in
-    (rw front (given_is _ _ _ _ n c.requires (search rules) ready), rw front ready)
+    (search rules, rw front (given_is _ _ _ _ n c.requires (search rules) ready), rw front ready)
