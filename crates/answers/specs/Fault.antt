@@ -1,5 +1,5 @@
 -- What can be wrong with a call before its file is looked at: E1 to E6 and then E8, in order. Assumes nothing.
-use Rattle.std.specs.Prelude.{Bool, true, false, not, List, [], ◌∷◌, ℕ, Ok, Err}
+use Rattle.std.specs.Prelude.{not, List, [], ◌∷◌, ℕ, Ok, Err}
 use Rattle.lines.specs.FirstOf.{Row, ◌⇒◌, first_of}
 use Rattle.moment.specs.Moment.{is_moment}
 use Rattle.tif.specs.Name.{is_name}

@@ -12,7 +12,6 @@ use Rattle.judge.specs.Call.{Call, check_of, words_judged, marks_judged, summary
 use Rattle.judge.specs.Core.{words_tried, CallTried}
 use Rattle.judge.specs.Records.{LineKnown}
 use Rattle.answers.specs.Answer.{Answer}
-use Rattle.answers.specs.Answer.{CallCheck}
 use Rattle.answers.specs.declared.answer.CallFault.{CallFault}
 use Rattle.answers.specs.declared.answer.Summary.{Summary}
 

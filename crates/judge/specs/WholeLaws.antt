@@ -22,7 +22,6 @@ use Rattle.answers.specs.Listing.{tic_of, refused_before, TicRoom}
 use Rattle.judge.specs.AnswerLaws.{no_room, answered}
 use Rattle.judge.specs.SoundLaws.{check_shows}
 use Rattle.answers.specs.Answer.{Answer}
-use Rattle.answers.specs.Answer.{CallCheck}
 use Rattle.answers.specs.declared.answer.CallFault.{CallFault}
 use Rattle.answers.specs.declared.answer.FileAnswer.{FileAnswer}
 use Rattle.answers.specs.declared.answer.Summary.{Summary}

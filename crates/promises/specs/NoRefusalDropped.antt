@@ -12,7 +12,6 @@ use Rattle.judge.specs.Call.{Call, check_of, file_of, lines_of, lines_to_judge, 
 use Rattle.answers.specs.Listing.{refused_at, refused_before}
 use Rattle.judge.specs.SoundLaws.{check_shows, lines_few}
 use Rattle.answers.specs.Answer.{Answer}
-use Rattle.answers.specs.Answer.{CallCheck}
 use Rattle.answers.specs.declared.answer.CallFault.TheVariants.{Room}
 use Rattle.answers.specs.declared.answer.Summary.{Summary}
 use Rattle.promises.specs.Demand1.{Untouched, refused_leaves_all}

@@ -16,7 +16,6 @@ use Rattle.judging.specs.Judging.{is_credit_file, cover_on, accepted_by, taken_o
 use Rattle.judging.proofs.WordLaws.{unlent_number}
 use Rattle.answers.specs.Card.{is_card}
 use Rattle.answers.specs.Fault.{lent_rows, check_lent, call_rows, check_call}
-use Rattle.answers.specs.Answer.{CallCheck}
 use Rattle.judge.specs.Call.{Call, check_of, judging_of}
 
 -- a list of tests with the one at place n, counted from 0, left out

@@ -1,7 +1,7 @@
 -- Two results that a contract allows are equal: for the same input the same answer, and the same contents afterwards of everything lent for writing.
 -- One theorem for each form of contract; docs/ONE_ANSWER.md names the theorem of each public function. None asks for what a function requires.
 -- What is lent for reading only stays as it is, by its type. Assumes nothing.
-use Rattle.std.specs.Prelude.{◌≡◌, List, ℕ, Result, Option, None}
+use Rattle.std.specs.Prelude.{◌≡◌, List, ℕ, Result, Option}
 use Rattle.std.proofs.Common.{sym, ap, ◌∙◌}
 use Rattle.std.specs.Borrow.{Bor}
 use Rattle.lines.specs.Number.{BigEndian}

@@ -44,7 +44,6 @@ use Rattle.tst.specs.Form.{is_lent, table_sound}
 use Rattle.tst.specs.Stations.{is_known_station}
 use Rattle.answers.specs.Card.{is_card}
 use Rattle.answers.specs.Fault.{check_lent, check_call}
-use Rattle.answers.specs.Answer.{CallCheck}
 use Rattle.answers.specs.declared.answer.FileAnswer.TheVariants.{Accepted, PartlyAccepted}
 use Rattle.answers.specs.declared.answer.Summary.{Summary}
 use Rattle.promises.specs.WorkedCall.{Passing, line_with, header_with, footer_with, row_of, tif_with, known_pan, first_passing, worked_card}

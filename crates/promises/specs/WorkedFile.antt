@@ -51,7 +51,6 @@ use Rattle.answers.specs.Card.{is_card, code_of}
 use Rattle.answers.specs.Fault.{check_lent, check_call}
 use Rattle.answers.specs.Listing.{refused_before, is_refusal, refused_place, tic_of}
 use Rattle.judge.specs.Records.{record_at, records_to}
-use Rattle.answers.specs.Answer.{CallCheck}
 use Rattle.answers.specs.Answer.{Answer}
 use Rattle.answers.specs.declared.answer.FileAnswer.TheVariants.{PartlyAccepted}
 use Rattle.answers.specs.declared.answer.Summary.{Summary}

@@ -26,7 +26,6 @@ use Rattle.answers.specs.Told.{summary_for, head_of, sums_of}
 use Rattle.judge.specs.Call.{Call, check_of, file_of, judging_of, words_judged, marks_judged, summary_of, tic_of_call, answer_sound, answer_of, marks_of, out_of, records_of}
 use Rattle.answers.specs.Listing.{tic_of}
 use Rattle.judge.specs.Records.{records_to}
-use Rattle.answers.specs.Answer.{CallCheck}
 use Rattle.answers.specs.declared.answer.Summary.{Summary}
 use Rattle.promises.specs.WorkedCall.{Passing, line_pieces, line_with, header_pieces, header_with, footer_pieces, footer_with, row_of, tif_with}
 

@@ -53,7 +53,6 @@ use Rattle.answers.specs.Card.{verdicts_in_use, is_card, code_of}
 use Rattle.judge.specs.CoreLaws.{words_length}
 use Rattle.answers.specs.Listing.{number_at, refused_at, Worded}
 use Rattle.judge.specs.SoundLaws.{CallSound, check_shows, judged, list_ready}
-use Rattle.answers.specs.Answer.{CallCheck}
 use Rattle.answers.specs.declared.answer.FileAnswer.{FileAnswer}
 use Rattle.promises.specs.RefusalsLaws.{placed, refused_total, none_accepted}
 use Rattle.promises.specs.Written.{refusal_of, line_shown, code_shown, values_of_tic}
