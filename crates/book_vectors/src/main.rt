@@ -9,7 +9,7 @@ ghost use Rattle.book_vectors.specs.Held.{IsBook};
 
 use book::check_book;
 use cover::{Detected, Place, cover_at};
-use frames::{print_bytes, print_line_feed, print_number, read_part, run_cases};
+use frames::{print_after_space, print_line_feed, print_number, read_part, run_cases};
 use std::io;
 use std::io::{Read, Write};
 
@@ -18,8 +18,7 @@ const ROOM: usize = 1048577;
 
 fn print_place(to: &mut impl Write, agreement: usize, period: usize) -> io::Result<()> {
     print_number(to, agreement as u64)?;
-    print_bytes(to, b" ")?;
-    print_number(to, period as u64)?;
+    print_after_space(to, period as u64)?;
     print_line_feed(to)
 }
 

@@ -8,4 +8,4 @@ mod output;
 
 pub use cases::run_cases;
 pub use input::{read_kind, read_part};
-pub use output::{print_bytes, print_line_feed, print_marks, print_number};
+pub use output::{print_after_space, print_bytes, print_line_feed, print_marks, print_number};

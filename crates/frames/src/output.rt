@@ -23,6 +23,15 @@ pub fn print_bytes<W: Write>(to: &mut W, s: &[u8]) -> io::Result<()>
     write_full(to, s)
 }
 
+// Prints a space, and then a number as above.
+pub fn print_after_space<W: Write>(to: &mut W, n: u64) -> io::Result<()>
+    ensures ok { OnOk result (Appends (W.contents to.old) (W.contents to.new) (32 ∷ decimal n)) }
+    ensures err { OnErr result (AppendsFront (W.contents to.old) (W.contents to.new) (32 ∷ decimal n)) }
+{
+    print_bytes(to, b" ")?;
+    print_number(to, n)
+}
+
 pub fn print_line_feed<W: Write>(to: &mut W) -> io::Result<()>
     ensures ok { OnOk result (Appends (W.contents to.old) (W.contents to.new) (10 ∷ [])) }
     ensures err { OnErr result (AppendsFront (W.contents to.old) (W.contents to.new) (10 ∷ [])) }
@@ -36,7 +45,7 @@ pub fn print_marks<W: Write>(to: &mut W, marks: &[u8]) -> io::Result<()>
     ensures err { OnErr result (AppendsFront (W.contents to.old) (W.contents to.new) (flat_map decimal marks.now)) }
 {
     for &mark in marks {
-        print_number(to, mark as u64)?;
+        print_number(to, u64::from(mark))?;
     }
     Ok(())
 }

@@ -5,7 +5,10 @@ ghost use Rattle.std.specs.Prelude.{ℕ, ◌<◌};
 ghost use Rattle.judge.specs.Records.{LineKnown};
 
 use answers::{Answer, CallFault, FileAnswer, Inputs, Summary};
-use frames::{print_bytes, print_line_feed, print_marks, print_number, read_part, run_cases};
+use frames::{
+    print_after_space, print_bytes, print_line_feed, print_marks, print_number, read_part,
+    run_cases,
+};
 use judge::{judge_words, lines_to_record};
 use std::io;
 use std::io::{Read, Write};
@@ -14,11 +17,6 @@ use verdicts::{Record, Verdict, record_of};
 
 // As many lines and debits as a case may bring, with room for some too many.
 const MOST: usize = 20;
-
-fn print_after_space(to: &mut impl Write, number: u64) -> io::Result<()> {
-    print_bytes(to, b" ")?;
-    print_number(to, number)
-}
 
 fn print_size(to: &mut impl Write, size: usize) -> io::Result<()> {
     print_after_space(to, size as u64)
@@ -42,19 +40,14 @@ fn print_counts(to: &mut impl Write, s: Summary) -> io::Result<()> {
 }
 
 fn print_amounts(to: &mut impl Write, s: Summary) -> io::Result<()> {
-    let total = s.total;
-    let accepted = s.accepted_amount;
-    let refused = s.refused_amount;
-    print_after_space(to, total.0)?;
-    print_after_space(to, accepted.0)?;
-    print_after_space(to, refused.0)
+    print_after_space(to, s.total.0)?;
+    print_after_space(to, s.accepted_amount.0)?;
+    print_after_space(to, s.refused_amount.0)
 }
 
 fn print_summary(to: &mut impl Write, s: Summary) -> io::Result<()> {
-    let file = s.answer;
-    let side = s.side;
-    print_file_answer(to, file)?;
-    print_bytes(to, side.text())?;
+    print_file_answer(to, s.answer)?;
+    print_bytes(to, s.side.text())?;
     print_counts(to, s)?;
     print_amounts(to, s)?;
     print_size(to, s.length)
@@ -74,12 +67,10 @@ fn print_stroke(to: &mut impl Write) -> io::Result<()> {
 
 // The verdict is printed as its word.
 fn print_record(to: &mut impl Write, record: Record, word: u64) -> io::Result<()> {
-    let gross = record.gross;
-    let net = record.net;
     print_size(to, record.number)?;
     print_after_space(to, word)?;
-    print_after_space(to, gross.0)?;
-    print_after_space(to, net.0)
+    print_after_space(to, record.gross.0)?;
+    print_after_space(to, record.net.0)
 }
 
 fn print_line_judged(to: &mut impl Write, tif: &[u8], words: &[u64], k: usize) -> io::Result<()>
@@ -116,7 +107,7 @@ fn print_output(to: &mut impl Write, out: &[u8]) -> io::Result<()> {
 
 fn run_call(
     to: &mut impl Write,
-    inputs: Inputs<'_>,
+    inputs: Inputs,
     marks: &mut [u8],
     room: usize,
     out: &mut [u8],
@@ -133,7 +124,7 @@ fn run_call(
 fn run_lent(
     from: &mut impl Read,
     to: &mut impl Write,
-    inputs: Inputs<'_>,
+    inputs: Inputs,
     room: usize,
 ) -> io::Result<bool> {
     let mut book = [0u8; 4096];
@@ -142,23 +133,29 @@ fn run_lent(
     let mut tif = [0u8; 16500];
     let mut tst = [0u8; 3000];
     let mut out = [0u8; 16600];
-    // A part that is missing counts as empty here, as above.
-    let a = read_part(from, &mut book)?.unwrap_or(0);
-    let b = read_part(from, &mut debits)?.unwrap_or(0);
-    let c = read_part(from, &mut marks)?.unwrap_or(0);
-    let d = read_part(from, &mut tif)?.unwrap_or(0);
-    let e = read_part(from, &mut tst)?.unwrap_or(0);
-    let Some(f) = read_part(from, &mut out)? else {
+    // A part that is missing counts as empty, here and below: only the last one says whether these are whole.
+    let book_size = read_part(from, &mut book)?.unwrap_or(0);
+    let debits_size = read_part(from, &mut debits)?.unwrap_or(0);
+    let marks_size = read_part(from, &mut marks)?.unwrap_or(0);
+    let tif_size = read_part(from, &mut tif)?.unwrap_or(0);
+    let tst_size = read_part(from, &mut tst)?.unwrap_or(0);
+    let Some(out_size) = read_part(from, &mut out)? else {
         return Ok(false);
     };
     let whole = Inputs {
-        book: &book[0..a],
-        debits: &debits[0..b],
-        tif: &tif[0..d],
-        tst: &tst[0..e],
+        book: &book[0..book_size],
+        debits: &debits[0..debits_size],
+        tif: &tif[0..tif_size],
+        tst: &tst[0..tst_size],
         ..inputs
     };
-    run_call(to, whole, &mut marks[0..c], room, &mut out[0..f])?;
+    run_call(
+        to,
+        whole,
+        &mut marks[0..marks_size],
+        room,
+        &mut out[0..out_size],
+    )?;
     Ok(true)
 }
 
@@ -169,19 +166,19 @@ fn run_parts(from: &mut impl Read, to: &mut impl Write) -> io::Result<bool> {
     let mut card = [0u8; 40];
     let mut names = [0u8; 400];
     let mut records = [0u8; MOST];
-    // A part that is missing counts as empty here: only the last one says whether these are whole.
-    let a = read_part(from, &mut name)?.unwrap_or(0);
-    let b = read_part(from, &mut received)?.unwrap_or(0);
-    let c = read_part(from, &mut card)?.unwrap_or(0);
-    let d = read_part(from, &mut names)?.unwrap_or(0);
+    // A part that is missing counts as empty, as above.
+    let name_size = read_part(from, &mut name)?.unwrap_or(0);
+    let received_size = read_part(from, &mut received)?.unwrap_or(0);
+    let card_size = read_part(from, &mut card)?.unwrap_or(0);
+    let names_size = read_part(from, &mut names)?.unwrap_or(0);
     let Some(room) = read_part(from, &mut records)? else {
         return Ok(false);
     };
     let inputs = Inputs {
-        name: &name[0..a],
-        received: &received[0..b],
-        card: &card[0..c],
-        names: &names[0..d],
+        name: &name[0..name_size],
+        received: &received[0..received_size],
+        card: &card[0..card_size],
+        names: &names[0..names_size],
         book: &[],
         debits: &[],
         tif: &[],

@@ -1,7 +1,7 @@
 // Reads, shows listed lines of, and rewrites TICs from standard input, and prints one line for each case.
 #![tactic(auto)]
 
-use frames::{print_bytes, print_line_feed, print_number, read_part, run_cases};
+use frames::{print_after_space, print_bytes, print_line_feed, print_number, read_part, run_cases};
 use std::io;
 use std::io::{Read, Write};
 use tic::{ListedFault, ListedPlace, RewriteFault, listed_line, read_tic, rewrite_tic};
@@ -15,24 +15,16 @@ fn print_fault(to: &mut impl Write, fault: TicFault) -> io::Result<()> {
     print_number(to, u64::from(u32::from(fault)))
 }
 
-fn print_after_space(to: &mut impl Write, number: u64) -> io::Result<()> {
-    print_bytes(to, b" ")?;
-    print_number(to, number)
-}
-
 fn print_values(to: &mut impl Write, values: TicValues) -> io::Result<()> {
-    let head = values.head;
-    let sums = values.sums;
-    let side = head.side;
     print_bytes(to, b"0")?;
-    print_number(to, head.acceptance)?;
+    print_number(to, values.head.acceptance)?;
     print_bytes(to, b" ")?;
-    print_bytes(to, side.text())?;
-    print_after_space(to, head.accepted.0)?;
-    print_after_space(to, head.rejected.0)?;
+    print_bytes(to, values.head.side.text())?;
+    print_after_space(to, values.head.accepted.0)?;
+    print_after_space(to, values.head.rejected.0)?;
     print_after_space(to, values.listed as u64)?;
-    print_after_space(to, sums.accepted.0)?;
-    print_after_space(to, sums.rejected.0)
+    print_after_space(to, values.sums.accepted.0)?;
+    print_after_space(to, values.sums.rejected.0)
 }
 
 fn print_reading(to: &mut impl Write, tic: &[u8]) -> io::Result<()> {

@@ -1,16 +1,15 @@
 // Runs name, received names and acceptance over cases from standard input, and prints one line for each.
 #![tactic(auto)]
 
-use frames::{print_bytes, print_line_feed, print_number, read_part, run_cases};
+use frames::{print_after_space, print_bytes, print_line_feed, read_part, run_cases};
 use std::io;
 use std::io::{Read, Write};
 use tif::{FileFault, Whole, acceptance_of, is_name, names_whole, side_of};
 
 fn print_whole(to: &mut impl Write, whole: Whole) -> io::Result<()> {
-    print_bytes(to, b"00 ")?;
-    print_number(to, whole.lines as u64)?;
-    print_bytes(to, b" ")?;
-    print_number(to, whole.total.0)
+    print_bytes(to, b"00")?;
+    print_after_space(to, whole.lines as u64)?;
+    print_after_space(to, whole.total.0)
 }
 
 fn print_acceptance(to: &mut impl Write, acceptance: Result<Whole, FileFault>) -> io::Result<()> {
@@ -41,16 +40,21 @@ fn run_file(from: &mut impl Read, to: &mut impl Write) -> io::Result<bool> {
     let mut name = [0u8; 128];
     let mut names = [0u8; 1024];
     let mut tif = [0u8; 8192];
-    let Some(a) = read_part(from, &mut name)? else {
+    let Some(name_size) = read_part(from, &mut name)? else {
         return Ok(false);
     };
-    let Some(b) = read_part(from, &mut names)? else {
+    let Some(names_size) = read_part(from, &mut names)? else {
         return Ok(false);
     };
-    let Some(c) = read_part(from, &mut tif)? else {
+    let Some(tif_size) = read_part(from, &mut tif)? else {
         return Ok(false);
     };
-    print_answer(to, &name[0..a], &names[0..b], &tif[0..c])?;
+    print_answer(
+        to,
+        &name[0..name_size],
+        &names[0..names_size],
+        &tif[0..tif_size],
+    )?;
     Ok(true)
 }
 
