@@ -12,4 +12,4 @@ pub use answer::{Answer, CallFault, FileAnswer, Summary};
 pub use fault::check_call;
 pub use inputs::Inputs;
 pub use listing::put_tic;
-pub use outcome::{head_of, is_too_small, summarize, summarize_refused, sums_told};
+pub use outcome::{head_of, is_too_small, judged_answer, summarize, summarize_refused, sums_told};

@@ -10,7 +10,7 @@ use tif::{FileFault, Whole, side_of};
 
 // 00 where no line is refused, 01 where one is.
 #[tactic(auto, unfolding(crate::specs::Told::judged_answer))]
-fn judged_answer(refused: usize) -> FileAnswer
+pub fn judged_answer(refused: usize) -> FileAnswer
     ensures { result ≡ judged_answer refused }
 {
     if refused == 0 {

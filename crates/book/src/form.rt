@@ -30,7 +30,7 @@ const MOST_BYTES: usize = 1048576;
 
 const MOST_AGREEMENTS: usize = 1000;
 
-pub const MOST_PERIODS: usize = 64;
+const MOST_PERIODS: usize = 64;
 
 // The end of a period, which in the last one may be fourteen nines.
 #[tactic(auto, unfolding(crate::specs::Form::end_form))]

@@ -4,7 +4,7 @@
 mod form;
 mod layout;
 
-pub use form::{MOST_PERIODS, check_book};
+pub use form::check_book;
 pub use layout::{
     END, ENTRIES, NATION, PAN, PERIOD, PLATE, START, agreements_of, offset_of, pan_of, period_of,
     periods_at,

@@ -173,6 +173,13 @@ next_one n x (Some i) None g h = absurd (omega arith)
 next_one n x None (Some j) g h = absurd (omega arith)
 next_one n x None None g h = refl
 
+-- one more of the heads set to v
+pub clear_more : (links : List ℕ) (v i : ℕ) → i < length links → ((h : ℕ) → h < i → get_or links h 0 ≡ v) → (h : ℕ) → h < i + 1 → get_or (set links i v) h 0 ≡ v
+clear_more links v i b filled h l =
+    below_suc h i (omega arith)
+    (λ e. rw e (get_or-set_same links i v 0 b))
+    (λ k. get_or-set_other links i h v 0 (λ e. omega arith) ∙ filled h k)
+
 module _ (links links' : List ℕ) where
   pub array_fronted : (n : ℕ) (free : ℕ → Bool) (h k : ℕ) → h < hashes → hashes + k < length links
       → links' ≡ set (set links (hashes + k) (get_or links h 0)) h k → Fronted n free h k (link_at links) (link_at links')

@@ -18,6 +18,13 @@ use Rattle.chains.specs.declared.indexing.Index.{Index}
 use Rattle.chains.specs.Index.{Ruled, hash_at, hash_is, Linked, Indexed, Entered}
 use Rattle.lines.specs.declared.columns.Columns.{Columns}
 
+-- one more of a list set to 0
+pub clear_more : (xs : List ℕ) (i : ℕ) → i < length xs → ((h : ℕ) → h < i → get_or xs h 0 ≡ 0) → (h : ℕ) → h < i + 1 → get_or (set xs i 0) h 0 ≡ 0
+clear_more xs i b zeros h l =
+    below_suc h i (omega arith)
+    (λ e. rw e (get_or-set_same xs i 0 0 b))
+    (λ k. get_or-set_other xs i h 0 0 (λ e. omega arith) ∙ zeros h k)
+
 module _ (l : Layout) (file : List ℕ) (spans : List Columns) where
   -- ---- the lines
   pub ruled_fewer : (n m : ℕ) → m ≤ n → Ruled l file spans n → Ruled l file spans m

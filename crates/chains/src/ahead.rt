@@ -20,7 +20,7 @@ pub fn next_ahead(links: &[u16], at: usize, n: usize) -> Option<usize>
     ensures { MatchOption result (n ≤ link_at links.now at) (λ j. (j ≡ link_at links.now at) × (j < n)) }
 {
     let next = usize::from(links[at]);
-    if next < n { Some(next) } else { None }
+    (next < n).then_some(next)
 }
 
 // Puts the number k, whose link stands in the slot `at`, in front of the chain of h.

@@ -85,7 +85,7 @@ fn cover_in(book: &[u8], i: usize, detected: Detected) -> Option<Place>
     })
 }
 
-// What covers a passage with a blank PAN: the first period in book order.
+// What covers a passage with a blank PAN: the first period in book order. No `find_map`: the library has no lemma on it.
 #[tactic(auto, using(crate::specs::PansLaws::sound_enough))]
 fn first_cover(book: &[u8], detected: Detected) -> Option<Place>
     requires { Ready width book.now detected.moment.now }
@@ -99,7 +99,7 @@ fn first_cover(book: &[u8], detected: Detected) -> Option<Place>
     None
 }
 
-// What covers a passage with this PAN: the first period in book order. A sound book is what the check has shown before.
+// What covers a passage with this PAN: the first period in book order. A sound book is what the check has shown before. This searches the book, where `cover_by` reads indexes of it.
 pub fn cover_at(book: &[u8], pan: &[u8], detected: Detected) -> Option<Place>
     requires { Ready width book.now detected.moment.now × (length pan.now ≡ 19) }
     ensures { result ≡ cover_of width book.now pan.now detected.entry.moment.now detected.entry.plate.now detected.entry.nation.now }

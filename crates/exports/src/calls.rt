@@ -36,8 +36,8 @@ fn tell_answer(summary: &mut [u64; 9], answer: Answer) -> u32
     }
 }
 
-// The parameters are flat for the C interface. Judges a TIF as `judge` does, with the words of the lines judged in place of their records: 0 and the nine values of the answer, or 1 to 8 for E1 to E8, with nothing written. An empty station table means that none is lent.
-// The C interface takes what is lent one by one.
+// Judges a TIF as `judge` does, with the words of the lines judged in place of their records: 0 and the nine values of the answer, or 1 to 8 for E1 to E8, with nothing written. An empty station table means that none is lent.
+// The parameters are flat for the C interface, here and below.
 #[unsafe(no_mangle)]
 pub extern "C" fn quindaf_judge_with(
     name: &[u8],

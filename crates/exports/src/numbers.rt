@@ -6,7 +6,6 @@ use answers::CallFault;
 use tif::Side;
 
 // A side by its number in the C interface, which tif does not know; so no From, which would stand in its crate.
-// A side in the numbers of the C interface, which are not those of the TIC; so no From beside the type.
 pub fn side_number(side: Side) -> u64
     ensures { result ≡ side_number side }
 {
@@ -17,7 +16,7 @@ pub fn side_number(side: Side) -> u64
     }
 }
 
-// E1 to E8 in the width of an answer.
+// E1 to E8 in the width of an answer of the C interface.
 pub fn call_fault_number(fault: CallFault) -> u32
     ensures { result ≡ call.fault_number fault }
 {

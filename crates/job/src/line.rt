@@ -24,5 +24,5 @@ pub fn answer_job(line: &mut [u8], job: &[u8]) -> usize
     ensures { Put (printed_of job.now) 0 line.old result line.new }
 {
     let mid = put_text(line, job);
-    put_run(line, mid, 1, 10)
+    put_run(line, mid, 1, b'\n')
 }

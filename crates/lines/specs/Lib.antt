@@ -9,7 +9,6 @@ pub mod Class
 pub mod ClassLaws
 pub mod Ranges
 pub mod Number
-pub mod ListLaws
 pub mod NumberLaws
 pub mod Same
 pub mod SameLaws

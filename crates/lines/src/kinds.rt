@@ -2,8 +2,8 @@ ghost use Rattle.std.specs.Prelude.{◌≡◌, ◌+◌, ◌^◌, ◌<◌};
 
 use std::ops::Add;
 
-// A fee without VAT, in 1/100 NOK. Nothing is added to it.
-#[derive(Clone, Copy, PartialEq, Eq)]
+// A fee without VAT, in 1/100 NOK. Nothing is added to it or compared with it.
+#[derive(Clone, Copy)]
 pub struct Net(pub u64);
 
 // An amount with VAT, in 1/100 NOK.

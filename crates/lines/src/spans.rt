@@ -4,7 +4,7 @@ ghost use Rattle.lines.specs.Spans.{agree_across, agree_on, spans_in, Spanned};
 use crate::columns::{Columns, field};
 use crate::same::is_same;
 
-// Whether line a by the spans ss holds the same texts as line b by the spans ts.
+// Whether line a by the spans ss holds the same texts as line b by the spans ts. No `all` over a range: its closure would have to show that the spans lie within the lines.
 pub fn agree_across(ss: &[Columns], a: &[u8], ts: &[Columns], b: &[u8]) -> bool
     requires { Spanned ss.now a.now ts.now b.now }
     ensures { result ≡ agree_across ss.now a.now ts.now b.now }

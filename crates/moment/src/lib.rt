@@ -156,7 +156,7 @@ pub fn is_moment(s: &[u8]) -> bool
     check_moment(s).is_ok()
 }
 
-// Whether a moment, as written, stands before another. Fourteen bytes are two words that share two bytes.
+// Whether a moment, as written, stands before another. Fourteen bytes are two words that share two bytes; the second ones are read only where the first are the same, so these are no tuples.
 pub fn is_earlier(a: &[u8], b: &[u8]) -> bool
     requires { (length a.now ≡ 14) × (length b.now ≡ 14) }
     ensures { result ≡ before a.now b.now }

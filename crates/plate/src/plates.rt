@@ -33,7 +33,7 @@ fn two_of(class: Class, nation: &[u8]) -> bool
 fn is_filled(plate: &[u8]) -> bool
     ensures { result ≡ is_filled plate.now }
 {
-    plate.len() > 0 && plate[0] != b' '
+    !plate.is_empty() && plate[0] != b' '
 }
 
 // What the nation beside a plate on a line is made of.

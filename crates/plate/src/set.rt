@@ -266,5 +266,5 @@ const PLATE_SET: [u8; 256] = [
 pub fn is_plate_byte(b: u8) -> bool
     ensures { result ≡ is_plate_byte b }
 {
-    PLATE_SET[b as usize] == 1
+    PLATE_SET[usize::from(b)] == 1
 }

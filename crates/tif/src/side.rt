@@ -4,7 +4,7 @@ ghost use Rattle.tif.specs.Side.{side_text, side_in, side_of, is_sided};
 use crate::columns::SIDE;
 use lines::{field, is_same};
 
-// Which side of the account a file is for.
+// Which side of the account a file is for. No Option of two, since a TIC names neither by a text of its own too.
 #[derive(Clone, Copy, PartialEq, Eq)]
 pub enum Side {
     Credit,

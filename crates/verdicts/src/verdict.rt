@@ -3,7 +3,7 @@ ghost use Rattle.verdicts.specs.Verdict.{word_of, acceptance_of, verdict_of, InW
 
 use cover::Place;
 
-// What is said of a line: what it is accepted by, or what is wrong with it first.
+// What is said of a line: what it is accepted by, or what is wrong with it first. One enum, the form that the rules name.
 #[derive(Clone, Copy)]
 pub enum Verdict {
     // A debit, covered by a period of an agreement.

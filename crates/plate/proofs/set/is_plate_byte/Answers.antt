@@ -7,4 +7,4 @@ use Rattle.plate.proofs.set.is_plate_byte.Goals as goal
 
 pub returns : goal.returns
 unfolding table_below plate_entry is_plate_byte is_digit is_capital is_small is_marked_letter
-returns c = table_rule c.args.b (omega arith)
+returns c = rw c.from.ensures (table_rule c.args.b (omega arith))
