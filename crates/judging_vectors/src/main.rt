@@ -9,8 +9,11 @@ ghost use Rattle.judging_vectors.specs.Cases.{Ready};
 
 use book::check_book;
 use debits::debits_sound;
-use frames::{print_bytes, print_line_feed, print_marks, print_number, read_part, run_cases};
-use judging::{Judging, Sums, Tally, sums_of};
+use frames::{
+    print_after_space, print_bytes, print_line_feed, print_marks, print_number, read_part,
+    run_cases,
+};
+use judging::{Judging, Sums, sums_of};
 use lines::field;
 use std::io;
 use std::io::{Read, Write};
@@ -46,25 +49,11 @@ fn print_stroke(to: &mut impl Write) -> io::Result<()> {
     print_bytes(to, b"/")
 }
 
-fn print_counts(to: &mut impl Write, accepted: Tally, refused: Tally) -> io::Result<()> {
-    print_bytes(to, b" ")?;
-    print_number(to, accepted.count.0)?;
-    print_bytes(to, b" ")?;
-    print_number(to, refused.count.0)
-}
-
-fn print_amounts(to: &mut impl Write, accepted: Tally, refused: Tally) -> io::Result<()> {
-    print_bytes(to, b" ")?;
-    print_number(to, accepted.amount.0)?;
-    print_bytes(to, b" ")?;
-    print_number(to, refused.amount.0)
-}
-
 fn print_sums(to: &mut impl Write, sums: Sums) -> io::Result<()> {
-    let accepted = sums.accepted;
-    let refused = sums.refused;
-    print_counts(to, accepted, refused)?;
-    print_amounts(to, accepted, refused)?;
+    print_after_space(to, sums.accepted.count.0)?;
+    print_after_space(to, sums.refused.count.0)?;
+    print_after_space(to, sums.accepted.amount.0)?;
+    print_after_space(to, sums.refused.amount.0)?;
     print_line_feed(to)
 }
 
@@ -128,20 +117,20 @@ fn run_parts(from: &mut impl Read, to: &mut impl Write) -> io::Result<bool> {
     let mut marks = [0u8; MOST];
     let mut tif = [0u8; 13230];
     // A part that is missing counts as empty here: only the last one says whether the case is whole.
-    let a = read_part(from, &mut name)?.unwrap_or(0);
-    let b = read_part(from, &mut book)?.unwrap_or(0);
-    let c = read_part(from, &mut debits)?.unwrap_or(0);
-    let d = read_part(from, &mut marks)?.unwrap_or(0);
-    let Some(e) = read_part(from, &mut tif)? else {
+    let name_size = read_part(from, &mut name)?.unwrap_or(0);
+    let book_size = read_part(from, &mut book)?.unwrap_or(0);
+    let debits_size = read_part(from, &mut debits)?.unwrap_or(0);
+    let marks_size = read_part(from, &mut marks)?.unwrap_or(0);
+    let Some(tif_size) = read_part(from, &mut tif)? else {
         return Ok(false);
     };
     let case = Case {
-        name: &name[0..a],
-        book: &book[0..b],
-        debits: &debits[0..c],
-        tif: &tif[0..e],
+        name: &name[0..name_size],
+        book: &book[0..book_size],
+        debits: &debits[0..debits_size],
+        tif: &tif[0..tif_size],
     };
-    run_file(to, case, &mut marks[0..d])
+    run_file(to, case, &mut marks[0..marks_size])
 }
 
 fn run_case(from: &mut impl Read, to: &mut impl Write, kind: u8) -> io::Result<bool> {
