@@ -25,6 +25,7 @@ pub fn print_moment(to: &mut impl Write, answer: Result<(), MomentFault>) -> io:
     }
 }
 
+// It prints the truth, and no step depends on it.
 fn print_truth(to: &mut impl Write, b: bool) -> io::Result<()> {
     print_number(to, u64::from(b))
 }

@@ -19,6 +19,7 @@ fn answer_input<R: Read, W: Write>(from: &mut R, to: &mut W) -> io::Result<()>
     ensures cut { OnErr result (IfSome (R.remaining from.old) (λ input. AppendsFront (W.contents to.old) (W.contents to.new) (printed_of input))) }
     ensures few { LosesAtMost (R.remaining from.old) (R.remaining from.new) 65537 }
 {
+    // Arrays, since the program has no heap.
     let mut job = [0u8; 65537];
     let mut line = [0u8; 133];
     let size = read_full(from, &mut job)?;
