@@ -1,7 +1,8 @@
 // Runs the form of open debits and the taking of debits over cases from standard input, and prints one line for each.
 #![tactic(auto)]
 
-ghost use Rattle.std.specs.Prelude.{◌*◌, ◌≤◌, length, IfOk, IfSome};
+ghost use Rattle.std.specs.Prelude.{IfOk, IfSome};
+ghost use Rattle.debits_vectors.specs.Held.{Fits};
 
 use debits::{debits_sound, take_debit};
 use frames::{print_line_feed, print_marks, print_number, read_part, run_cases};
@@ -20,7 +21,7 @@ struct Held {
     debits: [u8; ROOM],
     marks: [u8; MOST],
     count: usize,
-    ghost few: { count ≤ 40 },
+    ghost fits: { Fits count debits marks },
 }
 
 // Debits and marks: whether they are of the right form. As many are held if so, and otherwise none.
@@ -30,7 +31,7 @@ fn run_form(
     debits: &mut [u8],
     marks: &mut [u8],
 ) -> io::Result<Option<usize>>
-    ensures { IfOk result (λ held. IfSome held (λ count. count ≤ length marks.new)) }
+    ensures { IfOk result (λ held. IfSome held (λ count. Fits count debits.new marks.new)) }
 {
     let Some(size) = read_part(from, debits)? else {
         return Ok(None);
@@ -51,7 +52,7 @@ fn run_credit(
     marks: &mut [u8],
     count: usize,
 ) -> io::Result<bool>
-    requires { (count * 810 ≤ length debits.now) × (count ≤ length marks.old) }
+    requires { Fits count debits.now marks.old }
 {
     let mut credit = [0u8; WIDTH];
     if read_part(from, &mut credit)? != Some(WIDTH) {
