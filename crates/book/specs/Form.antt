@@ -103,6 +103,10 @@ head_sound book =
 unfoldable pub book_sound : ℕ → List ℕ → Bool
 book_sound w book = head_sound book && (entries_sound book && bodies_sound w book)
 
+-- E5: whether bytes are of the form of a book
+abbrev pub book_form : ℕ → List ℕ → Bool
+book_form w book = book_sound w book
+
 -- what a sound head shows
 pub record Headed (book : List ℕ) : Type 0 where
   pub enough : 2 ≤ length book

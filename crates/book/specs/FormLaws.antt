@@ -1,6 +1,5 @@
 -- What is known of books, heads and bodies of the right form. Assumes nothing.
-use Rattle.std.specs.Prelude.{◌≡◌, Bool, true, ◌&&◌, ◌||◌, List, ℕ, ◌+◌, ◌-◌, ◌<◌, length}
-use Rattle.std.proofs.Common.{sym, ◌∙◌}
+use Rattle.std.specs.Prelude.{◌≡◌, true, ◌&&◌, ◌||◌, List, ℕ, ◌+◌, ◌-◌, ◌<◌, length}
 use Rattle.std.proofs.Math.Bool.{false}
 use native.Mathlib.Omega.{arith}
 use Rattle.std.proofs.Math.Dec.{eqb, leb}
@@ -13,7 +12,7 @@ use Rattle.lines.specs.Rows.{line_place}
 use Rattle.lines.specs.Same.{before}
 use Rattle.lines.specs.declared.class.Class.TheVariants.{Digit}
 use Rattle.book.specs.Layout.{agreements, entry_layout, pan_of, offset_of, periods_at, body_end, body_place}
-use Rattle.book.specs.Form.{most_bytes, most_agreements, most_periods, periods_sound, body_sound, rises_at, entry_sound_at, entries_sound, agreement_sound, agreement_sound_at, bodies_sound, head_sound, book_sound, Headed, Body, Whole}
+use Rattle.book.specs.Form.{most_bytes, most_agreements, most_periods, periods_sound, body_sound, rises_at, entry_sound_at, entries_sound, agreement_sound, agreement_sound_at, bodies_sound, head_sound, book_sound, book_form, Headed, Body, Whole}
 
 -- ---- a sound head
 module _ (book : List ℕ) where
@@ -104,5 +103,5 @@ module _ (w : ℕ) (book : List ℕ) (e : book_sound w book ≡ true) where
       }
 
 -- a book that the check passes is sound
-pub form_sound : (w : ℕ) (book : List ℕ) (passes : Bool) → passes ≡ book_sound w book → passes ≡ true → book_sound w book ≡ true
-form_sound w book passes e p = sym e ∙ p
+pub form_sound : (w : ℕ) (book : List ℕ) → book_form w book ≡ true → book_sound w book ≡ true
+form_sound w book e = e

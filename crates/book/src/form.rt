@@ -1,6 +1,6 @@
 ghost use Rattle.std.specs.Prelude.{◌≡◌, true, ◌+◌, ◌*◌, ◌≤◌, ◌<◌, length};
 ghost use Rattle.book.specs.Layout.{agreements, entry_end, period_end, body_of, width};
-ghost use Rattle.book.specs.Form.{end_form, period_form, follows_at, period_sound_at, periods_sound, body_sound, rises_at, entry_sound_at, entries_sound, agreement_sound, bodies_sound, head_sound, book_sound, Headed};
+ghost use Rattle.book.specs.Form.{end_form, period_form, follows_at, period_sound_at, periods_sound, body_sound, rises_at, entry_sound_at, entries_sound, agreement_sound, bodies_sound, head_sound, book_form, Headed};
 ghost use Rattle.book.specs.declared.form.PeriodFault.TheVariants.{WrongMoment};
 
 use crate::layout::{
@@ -168,7 +168,7 @@ fn head_sound(book: &[u8]) -> bool
 // Whether the bytes are a book (E5).
 #[tactic(auto, using(crate::specs::FormLaws::head_is), unfolding(crate::specs::Form::book_sound))]
 pub fn check_book(book: &[u8]) -> bool
-    ensures { result ≡ book_sound width book.now }
+    ensures { result ≡ book_form width book.now }
 {
     head_sound(book) && entries_sound(book) && bodies_sound(book)
 }

@@ -14,7 +14,7 @@ pub struct Rows<'a> {
 }
 
 // Lines chained by their hash, in fixed memory. A line is named by its number counted from 1; 0 is none, so that an index of zeros is that of no lines.
-#[derive(Drop)]
+#[derive(Clone, Copy)]
 pub struct Index {
     // For each hash the last line that has it.
     pub heads: [u16; 4096],

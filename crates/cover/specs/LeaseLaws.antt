@@ -14,7 +14,7 @@ use Rattle.lines.specs.Number.{big_endian}
 use Rattle.lines.specs.Rows.{line_place, line_of}
 use Rattle.book.specs.Layout.{agreements, entry_layout, entry_of, pan_of, offset_of, body_head, periods_at, period_layout, period_of, body_of, body_end, body_place}
 use Rattle.book.specs.LayoutLaws.{entry_ends, period_ends}
-use Rattle.book.specs.Form.{follows_at, period_sound_at, periods_sound, body_sound, rises_at, entry_sound_at, entries_sound, agreement_sound, agreement_sound_at, bodies_sound, head_sound, book_sound}
+use Rattle.book.specs.Form.{follows_at, period_sound_at, periods_sound, body_sound, rises_at, entry_sound_at, entries_sound, agreement_sound, agreement_sound_at, bodies_sound, head_sound, book_sound, book_form}
 use Rattle.cover.specs.OrderLaws.{either_side}
 use Rattle.cover.specs.Lease.{OutsideLeases, SameButLeases}
 
@@ -151,5 +151,5 @@ module _ (w : ℕ) (a b : List ℕ) (s : SameButLeases w a b) where
   same_sound = rw (same_head, same_entries, same_bodies)
 
   -- the same form, also where the books are not sound
-  pub same_form : book_sound w a ≡ book_sound w b
+  pub same_form : book_form w a ≡ book_form w b
   same_form = same_sound

@@ -2,14 +2,15 @@ ghost use Rattle.std.specs.Prelude.{◌≡◌, ◌+◌, ◌≤◌, length, repli
 ghost use Rattle.lines.specs.Number.{digits_of};
 ghost use Rattle.lines.specs.Splice.{Put};
 
-// Writes a text into a place of out, and returns the place after it.
+// Writes a text into a place of out, and returns the place after it. A loop and no `copy_from_slice`, which would have the C archive ask for memmove.
 pub fn put_bytes(out: &mut [u8], at: usize, text: &[u8]) -> usize
     requires { at + length text.now ≤ length out.old }
     ensures { Put text.now at out.old result out.new }
 {
-    let end = at + text.len();
-    out[at..end].copy_from_slice(text);
-    end
+    for (i, &b) in text.iter().enumerate() {
+        out[at + i] = b;
+    }
+    at + text.len()
 }
 
 // Writes a number as `width` decimal digits with zeros in front, and returns the place after them.
