@@ -7,6 +7,8 @@ use answers::{Answer, Inputs};
 use verdicts::Record;
 
 // Judges a TIF against the book and the open debits: the answer, and the TIC, the records and the marks as they are to be kept.
+// Inlined, so that where its caller lends no station table nothing is kept for one on the stack.
+#[inline(always)]
 pub fn judge(inputs: Inputs, marks: &mut [u8], records: &mut [Record], out: &mut [u8]) -> Answer
     ensures { Judged (call_with inputs.entry marks.old (length records.old) out.old) records.old result marks.new records.new out.new }
 {
