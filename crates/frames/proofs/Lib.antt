@@ -1,1 +1,2 @@
 mod Losses
+mod Running
