@@ -20,7 +20,7 @@
  *    call, and nobody else reads or writes it until the call returns. It holds
  *    some value on entry: what a function leaves unchanged it may still read.
  *  - 128 KB of stack are free. quindaf_judge and quindaf_judge_with use about
- *    120 KB of it, the other functions less than 1 KB.
+ *    117 KB of it, the other functions less than 1 KB.
  *
  * Nothing else is asked: each function answers any lengths and any bytes.
  *

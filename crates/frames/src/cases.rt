@@ -13,10 +13,8 @@ pub fn run_cases<R: Read, W: Write, F: FnMut(&mut R, &mut W, u8) -> io::Result<b
 ) -> io::Result<()>
     requires { F.IsAlwaysCallable run_case }
     ensures at_end { R.remaining from.old ≡ Some [] → W.contents to.new ≡ W.contents to.old }
-    ensures ok { OnOk result (RunsToEnd R.remaining F.FnMut
-        (state_of from.old to.old run_case) from.new to.new) }
-    ensures err { IfErr result (λ e. RunsToError R.remaining F.FnMut
-        (state_of from.old to.old run_case) e from.new to.new) }
+    ensures ok { OnOk result (RunsToEnd R.remaining F.FnMut (state_of from.old to.old run_case) from.new to.new) }
+    ensures err { IfErr result (λ e. RunsToError R.remaining F.FnMut (state_of from.old to.old run_case) e from.new to.new) }
 {
     // A proved loop has to end, and nothing says that an input does: no run uses up so many turns.
     for _ in 0..u64::MAX {
