@@ -2,7 +2,7 @@
 #![tactic(auto)]
 
 ghost use Rattle.std.specs.Prelude.{IfOk, IfSome};
-ghost use Rattle.debits_vectors.specs.Held.{Fits};
+ghost use Rattle.debits_vectors.specs.Held.{Fits, Holds};
 
 use debits::{debits_sound, take_debit};
 use frames::{print_line_feed, print_marks, print_number, read_part, run_cases};
@@ -21,7 +21,7 @@ struct Held {
     debits: [u8; ROOM],
     marks: [u8; MOST],
     count: usize,
-    ghost fits: { Fits count debits marks },
+    ghost sound: { Holds count debits marks },
 }
 
 // Debits and marks: whether they are of the right form. As many are held if so, and otherwise none.
@@ -31,7 +31,7 @@ fn run_form(
     debits: &mut [u8],
     marks: &mut [u8],
 ) -> io::Result<Option<usize>>
-    ensures { IfOk result (λ held. IfSome held (λ count. Fits count debits.new marks.new)) }
+    ensures { IfOk result (λ held. IfSome held (λ count. Holds count debits.new marks.new)) }
 {
     let Some(size) = read_part(from, debits)? else {
         return Ok(None);
@@ -65,6 +65,7 @@ fn run_credit(
 
 impl Held {
     fn run_form(&mut self, from: &mut impl Read, to: &mut impl Write) -> io::Result<bool> {
+        self.count = 0;
         let Some(count) = run_form(from, to, &mut self.debits, &mut self.marks)? else {
             return Ok(false);
         };
